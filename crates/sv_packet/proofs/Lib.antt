@@ -1,0 +1,4 @@
+pub mod Payloads
+pub mod Packets
+pub mod Once
+pub mod Times

@@ -1,0 +1,5 @@
+pub mod Table
+pub mod Packet
+pub mod Packets
+pub mod Time
+pub mod Reader

@@ -1,0 +1,54 @@
+-- Codes: which bytes spell which value. S v b says that the bytes b spell the value v.
+-- A code here is read from the front, so what can be told of some bytes is told of a spelling at
+-- their front: it stands there whole, the bytes end inside it, or it breaks off at some byte.
+use Rattle.std.specs.Prelude.{◌≡◌, ◌≢◌, ℕ, ◌+◌, ◌<◌, ◌≤◌, List, [], ◌++◌, length, take}
+use Rattle.sv_prim.specs.declared.got.Reason.{Reason}
+use Rattle.sv_prim.specs.declared.got.Got.{Got}
+use Rattle.sv_prim.specs.declared.got.Got.TheVariants.{Value, Short, Bad}
+
+-- a spelling of the value stands at the front of the bytes, and has so many bytes
+pub record Begins {V : Type 0} (S : V → List ℕ → Type 0) (bytes : List ℕ) (value : V) (used : ℕ) : Type 0 where
+  pub within : used ≤ length bytes
+  pub spelled : S value (take used bytes)
+
+-- some spelling begins with the bytes
+abbrev pub GoesOn : {V : Type 0} → (V → List ℕ → Type 0) → List ℕ → Type 0
+GoesOn {V} S bytes = (value : V) × (more : List ℕ) × S value (bytes ++ more)
+
+-- the bytes are less than a whole spelling
+abbrev pub IsCutShort : {V : Type 0} → (V → List ℕ → Type 0) → List ℕ → Type 0
+IsCutShort {V} S bytes = (value : V) × (more : List ℕ) × (more ≢ []) × S value (bytes ++ more)
+
+-- the bytes before the place are less than a whole spelling, and no spelling goes on with the byte there
+pub record BreaksAt {V : Type 0} (S : V → List ℕ → Type 0) (bytes : List ℕ) (place : ℕ) : Type 0 where
+  pub within : place < length bytes
+  pub before : IsCutShort S (take place bytes)
+  pub here : GoesOn S (take (place + 1) bytes) → ⊥
+
+-- what an answer says of the bytes; `why` is the reason at a place
+abbrev pub Tells : {V : Type 0} → (V → List ℕ → Type 0) → (ℕ → Reason) → List ℕ → Got V → Type 0
+Tells S why bytes (Value value used) = Begins S bytes value used
+Tells S why bytes Short = IsCutShort S bytes
+Tells S why bytes (Bad place reason) = BreaksAt S bytes place × (reason ≡ why place)
+
+-- nothing else could have been said of the bytes
+pub record IsOnly {V : Type 0} (S : V → List ℕ → Type 0) (bytes : List ℕ) (got : Got V) : Type 0 where
+  pub value : (value : V) (used : ℕ) → Begins S bytes value used → got ≡ Value value used
+  pub short : IsCutShort S bytes → got ≡ Short
+  pub bad : (place : ℕ) → BreaksAt S bytes place → (reason : Reason) × (got ≡ Bad place reason)
+
+-- no spelling begins another, and each spells one value
+abbrev pub IsPrefixFree : {V : Type 0} → (V → List ℕ → Type 0) → Type 0
+IsPrefixFree {V} S = (u v : V) (a b x y : List ℕ) → S u a → S v b → a ++ x ≡ b ++ y → (a ≡ b) × (u ≡ v)
+
+-- of any bytes something can be told
+abbrev pub IsTotal : {V : Type 0} → (V → List ℕ → Type 0) → (ℕ → Reason) → Type 0
+IsTotal {V} S why = (bytes : List ℕ) → (got : Got V) × Tells S why bytes got
+
+-- one spelling, and then another
+pub record IsPair {A B : Type 0} (S : A → List ℕ → Type 0) (T : B → List ℕ → Type 0) (pair : A × B) (bytes : List ℕ) : Type 0 where
+  pub first : List ℕ
+  pub second : List ℕ
+  pub first_spelled : S pair.0 first
+  pub second_spelled : T pair.1 second
+  pub whole : bytes ≡ first ++ second

@@ -1,0 +1,28 @@
+-- Numbers (UM08027, encoding of U32): seven bits in each byte, the least significant group first.
+-- That only the shortest form is read is this format's own rule: so a number has one spelling.
+use Rattle.std.specs.Prelude.{◌≡◌, ◌≢◌, ℕ, ◌+◌, ◌-◌, ◌*◌, ◌%◌, ◌^◌, ◌<◌, ◌≤◌, List, [], ◌∷◌, length, slice_index}
+use Rattle.sv_prim.specs.declared.got.Reason.{Reason}
+use Rattle.sv_prim.specs.declared.got.Reason.TheVariants.{BadNumber}
+
+-- the seven low bits of each byte, each byte's counting 128 times those of the one before
+abbrev pub groups_sum : List ℕ → ℕ
+groups_sum [] = 0
+groups_sum (b ∷ bs) = b % 128 + 128 * groups_sum bs
+
+-- every byte but the last has bit 7 set, and the last hasn't
+abbrev pub IsGroups : List ℕ → Type 0
+IsGroups [] = ⊥
+IsGroups (b ∷ []) = b < 128
+IsGroups (b ∷ c ∷ bs) = (128 ≤ b) × (b < 256) × IsGroups (c ∷ bs)
+
+-- the bytes spell the number: at most five, and the last is 0 only if it stands alone
+pub record IsNumber (value : ℕ) (bytes : List ℕ) : Type 0 where
+  pub groups : IsGroups bytes
+  pub few : length bytes ≤ 5
+  pub shortest : 1 < length bytes → slice_index bytes (length bytes - 1) ≢ 0
+  pub sum : value ≡ groups_sum bytes
+  pub fits : value < 2 ^ 32
+
+-- a number is refused for one reason
+abbrev pub number_reason : ℕ → Reason
+number_reason place = BadNumber

@@ -2,3 +2,4 @@ pub mod Payloads
 pub mod Packets
 pub mod Once
 pub mod Times
+pub mod Totality

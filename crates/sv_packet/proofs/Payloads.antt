@@ -38,7 +38,7 @@ count_of ToScheduler = refl
 count_of (TimerEnter timer) = refl
 count_of TimerExit = refl
 
-one_number : (n : ℕ) (bytes : List ℕ) → IsNumber n bytes → AreNumbers (n ∷ []) bytes
+pub one_number : (n : ℕ) (bytes : List ℕ) → IsNumber n bytes → AreNumbers (n ∷ []) bytes
 one_number n bytes s = (bytes, [], s, refl, sym (append-nil bytes))
 
 -- a list of one number begins with it
@@ -48,7 +48,7 @@ first_number (n ∷ []) bytes one (first, rest, s, nothing, whole) = (n, subst (
 first_number (n ∷ m ∷ ns) bytes one s = absurd (omega arith)
 
 module _ (id : ℕ) (make : ℕ → Event) (is : (n : ℕ) → identifier (make n) ≡ id) (has : (n : ℕ) → numbers (make n) ≡ n ∷ []) (one : count id ≡ 1) where
-  one_short : (bytes : List ℕ) → IsCutShort IsNumber bytes → IsCutShort (IsPayloadOf id) bytes
+  pub one_short : (bytes : List ℕ) → IsCutShort IsNumber bytes → IsCutShort (IsPayloadOf id) bytes
   one_short bytes (n, more, some, s) = (make n, more, some, (is n, subst (λ (ns : List ℕ). AreNumbers ns (bytes ++ more)) (sym (has n)) (one_number n (bytes ++ more) s)))
 
   one_goes : (bytes : List ℕ) → GoesOn (IsPayloadOf id) bytes → GoesOn IsNumber bytes
@@ -56,7 +56,7 @@ module _ (id : ℕ) (make : ℕ → Event) (is : (n : ℕ) → identifier (make 
       let n = first_number (numbers event) (bytes ++ more) (sym (count_of event) ∙ ap count same ∙ one) s in
       (n.0, more, n.1)
 
-  one_breaks : (bytes : List ℕ) (place : ℕ) → BreaksAt IsNumber bytes place → BreaksAt (IsPayloadOf id) bytes place
+  pub one_breaks : (bytes : List ℕ) (place : ℕ) → BreaksAt IsNumber bytes place → BreaksAt (IsPayloadOf id) bytes place
   one_breaks bytes place p = record { within = p.within; before = one_short (take place bytes) p.before; here = λ goes. p.here (one_goes (take (place + 1) bytes) goes) }
 
   pub one_stops : (old : Reader) (stop : Stop) → Stops IsNumber number_reason old stop → Stops (IsPayloadOf id) number_reason old stop
@@ -77,7 +77,7 @@ numbers_free (n ∷ ns) (m ∷ ms) a b x y len (c, d, s, p, whole) (f, g, t, q, 
     (whole ∙ ap (λ (k : List ℕ). k ++ d) one.0 ∙ ap (λ (k : List ℕ). f ++ k) others.0 ∙ sym whole2, cc)
 
 -- the event with an identifier and these numbers
-abbrev build : ℕ → List ℕ → Event
+abbrev pub build : ℕ → List ℕ → Event
 build id ns = let n = get_or ns 0 0 in
     if id == 0 then Nop else if id == 1 then Overflow n else if id == 2 then IsrEnter n else if id == 3 then IsrExit else if id == 4 then TaskStart n else if id == 5 then TaskStop
     else if id == 6 then TaskReady n else if id == 8 then TaskCreate n else if id == 10 then TraceStart else if id == 11 then TraceStop else if id == 12 then SystimeCycles n

@@ -1,0 +1,16 @@
+-- Counts, and the faults that they count: a fault is answered only where its object's count rose.
+use Rattle.std.specs.Prelude.{◌≡◌, ℕ, ◌+◌, ◌-◌, ◌^◌, ◌≤◌, max, min, Result, OnOk, OnErr}
+
+-- one more, as far as a u64 goes: at its end a count stays
+abbrev pub one_more : ℕ → ℕ
+one_more n = max n (min (n + 1) (2 ^ 64 - 1))
+
+-- greater than before, or at the end of its type
+abbrev pub Rose : ℕ → ℕ → Type 0
+Rose before now = min (before + 1) (2 ^ 64 - 1) ≤ now
+
+-- the count of an object over one call: it never falls, an error makes it rise, and an answer leaves it
+pub record HasCause {T E : Type 0} (before now : ℕ) (result : Result T E) : Type 0 where
+  pub later : before ≤ now
+  pub failed : OnErr result (Rose before now)
+  pub kept : OnOk result (now ≡ before)

@@ -1,0 +1,83 @@
+ghost use Rattle.std.specs.Prelude.{◌≡◌, ◌≢◌, ◌<◌, ◌≤◌, false, IsTrue, Err, length, vec_len, IfOk, OnOk, OnErr, IsErrOf};
+ghost use Rattle.std.specs.Io.KnownBytes.{Appends, Consumes, IsAtEnd};
+ghost use Rattle.sv_base.specs.Causes.{Rose, HasCause};
+ghost use Rattle.sv_base.specs.Copies.{is_left_open};
+ghost use Rattle.sv_base.specs.Streams.{IsSameFiles, AppendsPart, ConsumesMore};
+
+use crate::failed::Failed;
+use crate::sink::Sink;
+use crate::source::Source;
+use std::alloc::Global;
+use thiserror::Error;
+
+/// Why a file was not read whole.
+#[derive(Clone, Copy, Debug, PartialEq, Eq, Error)]
+pub enum ReadAll {
+    /// The device failed, and the source has counted a fault.
+    #[error("the device failed")]
+    Failed,
+    /// The file has more bytes than the limit.
+    #[error("longer than the limit")]
+    TooLong,
+    /// There was no memory for the bytes.
+    #[error("no memory")]
+    NoMemory,
+}
+
+/// Writes all the bytes, in as many pieces as the sink makes of them.
+///
+/// Answers [`Failed`] only where the device failed. Then a front of the bytes was written, maybe none.
+pub fn put_all<K: Sink>(out: &mut K, bytes: &[u8]) -> Result<(), Failed>
+    ensures ok { OnOk result (Appends (K.written out.old) (K.written out.new) bytes.now) }
+    ensures err { OnErr result (AppendsPart (K.written out.old) (K.written out.new) bytes.now) }
+    ensures cause { HasCause (K.faults out.old) (K.faults out.new) result }
+{
+    let mut rest = bytes;
+    while !rest.is_empty() {
+        let count = out.write(rest)?;
+        rest = &rest[count..];
+    }
+    Ok(())
+}
+
+/// Reads the open file to its end, if no more than `limit` bytes of it are left.
+///
+/// Answers `Failed` only where the device failed, `TooLong` where `limit` bytes were read and one
+/// more came, and `NoMemory` where the bytes found no room on the heap. After `TooLong` and
+/// `NoMemory` the file is still open, and the bytes that were read are lost.
+///
+/// Each byte is copied once, from a buffer of 4096 bytes on the stack. At most `limit` bytes are kept.
+pub fn read_all<S: Source>(alloc: Global, src: &mut S, limit: u64) -> Result<Vec<u8>, ReadAll>
+    requires { IsTrue (S.opened src.old) }
+    ensures whole { IfOk result (λ bytes. Consumes (S.left src.old) (S.left src.new) bytes.items × IsAtEnd (S.left src.new)) }
+    ensures within { IfOk result (λ bytes. vec_len bytes ≤ limit) }
+    ensures long { IsErrOf result ReadAll.TooLong → ConsumesMore (S.left src.old) (S.left src.new) limit }
+    ensures opened { S.opened src.new ≡ is_left_open result }
+
+    // What no answer changes.
+    ensures files { IsSameFiles (S.held src.old) (S.held src.new) (S.sure src.old) (S.sure src.new) }
+    ensures begins { S.begins src.new ≡ S.begins src.old }
+
+    // A fault has its cause, and there is none where the file is safe.
+    ensures failed { IsErrOf result ReadAll.Failed → Rose (S.faults src.old) (S.faults src.new) }
+    ensures kept { result ≢ Err ReadAll.Failed → S.faults src.new ≡ S.faults src.old }
+    ensures safe { S.safe src.old → (result ≢ Err ReadAll.Failed) × S.safe src.new }
+{
+    let mut bytes = Vec::new(alloc);
+    let mut buf = [0; 4096];
+    loop {
+        let count = match src.read(&mut buf) {
+            Ok(count) => count,
+            Err(Failed) => return Err(ReadAll::Failed),
+        };
+        if count == 0 {
+            return Ok(bytes);
+        }
+        if limit - (bytes.len() as u64) < count as u64 {
+            return Err(ReadAll::TooLong);
+        }
+        if bytes.extend_from_slice(&buf[..count]).is_err() {
+            return Err(ReadAll::NoMemory);
+        }
+    }
+}

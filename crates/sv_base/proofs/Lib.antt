@@ -1,3 +1,3 @@
-pub mod Known
+pub mod Writing
+pub mod Reading
 pub mod Places
-pub mod Limits

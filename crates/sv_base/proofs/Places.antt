@@ -1,7 +1,7 @@
 -- The first file of a name, found by its place.
 use Rattle.std.proofs.Common.{◌≡◌, ℕ, ◌+◌, Bool, List, [], ◌∷◌, length, Option, Some, None, true, false, refl, ap, ◌∙◌, sym, arith}
 use Rattle.std.specs.Prelude.{map, position, nat_lt, slice_get, String, string_bytes, cond, not}
-use Rattle.std.specs.List.{find, position_or_len}
+use Rattle.std.specs.List.{position_or_len}
 use Rattle.std.specs.Option.{option_map}
 use Rattle.std.specs.Global.{Global, Vec}
 use Rattle.std.proofs.lemmas.List.{length-map}

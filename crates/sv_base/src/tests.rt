@@ -35,7 +35,11 @@ fn a_source_fails_where_it_is_told_to(rt: HostRuntime) -> Result<(), Fail> {
         };
         match got {
             Ok(bytes) => {
-                assert_eq!(rt; Ok(bytes.as_slice()), want, "{name} to {limit}, {fails:?} failing")
+                assert_eq!(rt;
+                    Ok(bytes.as_slice()),
+                    want,
+                    "{name} to {limit}, {fails:?} failing"
+                )
             }
             Err(fault) => {
                 assert_eq!(rt; Err(fault), want, "{name} to {limit}, {fails:?} failing")
@@ -49,10 +53,30 @@ fn a_source_fails_where_it_is_told_to(rt: HostRuntime) -> Result<(), Fail> {
 fn a_sink_takes_what_there_is_room_for(rt: HostRuntime) -> Result<(), Fail> {
     let alloc = rt.alloc();
     for (room, fails, want, bytes) in [
-        (3, [].as_slice(), [Ok(2), Ok(1), Err(Failed)], [1, 2, 3].as_slice()),
-        (9, [2].as_slice(), [Ok(2), Err(Failed), Ok(1)], [1, 2, 5].as_slice()),
-        (9, [1, 3].as_slice(), [Err(Failed), Ok(2), Err(Failed)], [3, 4].as_slice()),
-        (0, [].as_slice(), [Err(Failed), Err(Failed), Err(Failed)], [].as_slice()),
+        (
+            3,
+            [].as_slice(),
+            [Ok(2), Ok(1), Err(Failed)],
+            [1, 2, 3].as_slice(),
+        ),
+        (
+            9,
+            [2].as_slice(),
+            [Ok(2), Err(Failed), Ok(1)],
+            [1, 2, 5].as_slice(),
+        ),
+        (
+            9,
+            [1, 3].as_slice(),
+            [Err(Failed), Ok(2), Err(Failed)],
+            [3, 4].as_slice(),
+        ),
+        (
+            0,
+            [].as_slice(),
+            [Err(Failed), Err(Failed), Err(Failed)],
+            [].as_slice(),
+        ),
     ] {
         let mut sink = MemSink::new(alloc, room, fails.to_vec(alloc)?)
             .ok()
@@ -87,8 +111,14 @@ fn devices_and_the_texts_of_errors(rt: HostRuntime) -> Result<(), Fail> {
     let alloc = rt.alloc();
     assert_eq!(rt; FileSource::new(rt).begin("no/such/file"), Err(Failed));
     assert_eq!(rt; OutSink::new(rt, Stream::Err).write(&[0xff]), Err(Failed));
-    assert_eq!(rt; put_all(&mut OutSink::new(rt, Stream::Out), b"a line\n"), Ok(()));
-    assert_eq!(rt; format!(in alloc; "{Failed}")?.as_str(), "the device failed");
+    assert_eq!(rt;
+        put_all(&mut OutSink::new(rt, Stream::Out), b"a line\n"),
+        Ok(())
+    );
+    assert_eq!(rt;
+        format!(in alloc; "{Failed}")?.as_str(),
+        "the device failed"
+    );
     for (fault, text) in [
         (ReadAll::Failed, "the device failed"),
         (ReadAll::TooLong, "longer than the limit"),

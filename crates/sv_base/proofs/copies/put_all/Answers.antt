@@ -1,6 +1,6 @@
-use Rattle.std.proofs.Common.{◌+◌, ◌∙◌, ℕ, List, subst, take, drop}
+use Rattle.std.proofs.Common.{◌+◌, ◌∙◌, ℕ, List, subst, take}
 use Rattle.std.specs.Io.KnownBytes.{Appends}
-use Rattle.sv_base.proofs.Known.{Appends-more, rest_behind}
+use Rattle.sv_base.proofs.Writing.{Appends-more, rest_behind}
 use Rattle.sv_base.proofs.copies.put_all.Goals as goal
 
 pub loop-rest-preserved : goal.loop-rest-preserved

@@ -1,5 +1,5 @@
 use Rattle.std.proofs.Common.{arith}
-use Rattle.sv_base.proofs.Limits.{ConsumesMore-from}
+use Rattle.sv_base.proofs.Reading.{ConsumesMore-from}
 use Rattle.sv_base.proofs.copies.read_all.Goals as goal
 
 pub returns-then-limit-len-clause-long : goal.returns-then-limit-len-clause-long

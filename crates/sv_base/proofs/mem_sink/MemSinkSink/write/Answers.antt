@@ -1,4 +1,4 @@
-use Rattle.std.proofs.Common.{rules, arith}
+use Rattle.std.proofs.Common.{rules}
 use Rattle.sv_base.proofs.mem_sink.MemSinkSink.write.Goals as goal
 use Rattle.sv_base.proofs.mem_sink.MemSinkSink.write.Goals.{then-count-eq0-via-then-count-eq0, then-count-eq0-via-else-count-eq0+then-contains}
 

@@ -16,7 +16,7 @@ returns-in-Some-clause-fails c =
 
 pub returns-clause-fails : goal.returns-clause-fails
 returns-clause-fails c = elim c.if-not-contains.branch [
-    then-not-contains+in_default w ↦
+  | then-not-contains+in_default w ↦
       let missing : bytes_of c.args.self.now.files c.args.name.now ≡ None = rw (← c.self.view_is) (bytes_of_missing c.self.inside.files.items c.args.name.now (cc)) in
       rw missing (search rules)
   | else-not-contains w ↦ search rules
@@ -24,7 +24,7 @@ returns-clause-fails c = elim c.if-not-contains.branch [
 
 pub returns-clause-sure : goal.returns-clause-sure
 returns-clause-sure c = elim c.if-not-contains.branch [
-    then-not-contains+in_default w ↦
+  | then-not-contains+in_default w ↦
       let missing : bytes_of c.args.self.now.files c.args.name.now ≡ None = rw (← c.self.view_is) (bytes_of_missing c.self.inside.files.items c.args.name.now (cc)) in
       rw missing (search rules)
   | else-not-contains w ↦ search rules

@@ -1,8 +1,8 @@
-use Rattle.std.proofs.Common.{length, drop, ap, sym, ◌∙◌, List, ℕ}
+use Rattle.std.proofs.Common.{length, drop, ap, ◌∙◌, List, ℕ}
 use Rattle.std.specs.Prelude.{String}
 use Rattle.std.specs.Global.{Global, Vec}
 use Rattle.sv_base.specs.Memory.{bytes_at, files_of}
-use Rattle.sv_base.proofs.Known.{read_moves}
+use Rattle.sv_base.proofs.Reading.{read_moves}
 use Rattle.sv_base.proofs.mem_source.MemSourceSource.read.Goals as goal
 
 pub returns-clause-bytes : goal.returns-clause-bytes

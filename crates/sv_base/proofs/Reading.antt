@@ -1,0 +1,28 @@
+-- Bytes read piece by piece.
+use Rattle.std.proofs.Common.{◌≡◌, ℕ, ◌+◌, ◌-◌, ◌≤◌, List, [], ◌++◌, length, take, drop, Option, Some, None, sym, ap, ◌∙◌, append_assoc, arith, length-append}
+use Rattle.std.specs.Prelude.{min, ◌<◌}
+use Rattle.std.proofs.lemmas.List.{drop-drop, take_at, length-drop, length-take, take-append-drop, nil_from_length}
+use Rattle.std.specs.Io.KnownBytes.{Consumes}
+use Rattle.sv_base.specs.Streams.{ConsumesMore}
+
+-- a read copies a front of what is left
+pub read_moves : (bytes rest copied tail : List ℕ) (at count size : ℕ) → rest ≡ drop at bytes → copied ≡ take count rest → count ≡ min (length rest) size → 0 < size
+    → (drop at bytes ≡ take count (copied ++ tail) ++ drop (at + count) bytes) × (count ≡ 0 → 0 < length (copied ++ tail) → drop (at + count) bytes ≡ [])
+read_moves bytes rest copied tail at count size left copy least some =
+    let len : length copied ≡ count = omega (arith, ap length copy, length-take count rest) in
+    let front : take count (copied ++ tail) ≡ copied = take_at copied tail count len in
+    let behind : drop count rest ≡ drop (at + count) bytes = ap (drop count) left ∙ drop-drop count at bytes in (
+      sym left ∙ sym (take-append-drop count rest) ∙ ap (λ (x : List ℕ). take count rest ++ x) behind ∙ ap (λ (x : List ℕ). x ++ drop (at + count) bytes) (sym (front ∙ copy)),
+      λ none more. sym behind ∙ nil_from_length (drop count rest) (omega (arith, length-drop count rest)),
+    )
+
+Consumes-then : (a b c : Option (List ℕ)) (x y : List ℕ) → Consumes a b x → Consumes b c y → Consumes a c (x ++ y)
+Consumes-then None b c x y p q = tt
+Consumes-then (Some s) None c x y p q = absurd p
+Consumes-then (Some s) (Some t) None x y p q = absurd q
+Consumes-then (Some s) (Some t) (Some u) x y p q = p ∙ ap (λ (k : List ℕ). x ++ k) q ∙ sym (append_assoc x y u)
+
+-- the bytes so far, and then more than there is room for
+pub ConsumesMore-from : (a b c : Option (List ℕ)) (bytes buf : List ℕ) (count limit : ℕ) → Consumes a b bytes → Consumes b c (take count buf) → count ≤ length buf → length bytes ≤ limit → limit - length bytes < count → ConsumesMore a c limit
+ConsumesMore-from a b c bytes buf count limit p q within so_far more =
+    (bytes ++ take count buf, Consumes-then a b c bytes (take count buf) p q, omega (arith, length-append bytes (take count buf), length-take count buf))

@@ -1,14 +1,14 @@
--- What a program knows of a device: how often it was called, and no byte of its content.
+-- What a program knows of a device: how often it was begun and failed, and no byte of its content.
 use Rattle.std.specs.Prelude.{ℕ, Bool}
 use Rattle.sv_base.specs.declared.out_sink.Stream.{Stream}
 
 -- files by their paths
-pub record Files : Type 0 where
+pub record FileState : Type 0 where
   pub opened : Bool
   pub begins : ℕ
   pub faults : ℕ
 
 -- a standard stream
-pub record Output : Type 0 where
+pub record StreamState : Type 0 where
   pub stream : Stream
   pub faults : ℕ

@@ -1,4 +1,4 @@
-ghost use Rattle.std.specs.Prelude.{◌≡◌, ◌≢◌, ◌<◌, ◌≤◌, false, IsTrue, Err, length, vec_len, IfOk, OnOk, OnErr, IsErrOf};
+ghost use Rattle.std.specs.Prelude.{◌≡◌, ◌≢◌, ◌≤◌, IsTrue, Err, vec_len, IfOk, OnOk, OnErr, IsErrOf};
 ghost use Rattle.std.specs.Io.KnownBytes.{Appends, Consumes, IsAtEnd};
 ghost use Rattle.sv_base.specs.Causes.{Rose, HasCause};
 ghost use Rattle.sv_base.specs.Copies.{is_left_open};
@@ -43,7 +43,7 @@ pub fn put_all<K: Sink>(out: &mut K, bytes: &[u8]) -> Result<(), Failed>
 /// Reads the open file to its end, if no more than `limit` bytes of it are left.
 ///
 /// Answers `Failed` only where the device failed, `TooLong` where `limit` bytes were read and one
-/// more came, and `NoMemory` where the bytes found no room on the heap. After `TooLong` and
+/// more came, and `NoMemory` where bytes came that found no room on the heap. After `TooLong` and
 /// `NoMemory` the file is still open, and the bytes that were read are lost.
 ///
 /// Each byte is copied once, from a buffer of 4096 bytes on the stack. At most `limit` bytes are kept.
@@ -52,6 +52,7 @@ pub fn read_all<S: Source>(alloc: Global, src: &mut S, limit: u64) -> Result<Vec
     ensures whole { IfOk result (λ bytes. Consumes (S.left src.old) (S.left src.new) bytes.items × IsAtEnd (S.left src.new)) }
     ensures within { IfOk result (λ bytes. vec_len bytes ≤ limit) }
     ensures long { IsErrOf result ReadAll.TooLong → ConsumesMore (S.left src.old) (S.left src.new) limit }
+    ensures memory { IsErrOf result ReadAll.NoMemory → ConsumesMore (S.left src.old) (S.left src.new) 0 }
     ensures opened { S.opened src.new ≡ is_left_open result }
 
     // What no answer changes.

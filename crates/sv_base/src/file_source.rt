@@ -1,7 +1,6 @@
 ghost use Rattle.std.specs.Prelude.{◌≡◌, ◌<◌, None, IsTrue, is_ok, OnErr, false, length};
 ghost use Rattle.std.specs.Io.{ReadsAtMost};
 ghost use Rattle.sv_base.specs.Causes.{HasCause, one_more};
-ghost use Rattle.sv_base.specs.Devices.{Files};
 ghost use Rattle.sv_base.specs.Streams.{goes_on};
 
 use crate::failed::Failed;
@@ -9,28 +8,29 @@ use crate::source::Source;
 use std::fs;
 use std::io::Read;
 use std::marker::Model;
+use std::rt::Files;
 
 /// Files by their paths. Nothing is known of their bytes, and no call is sure to succeed.
 ///
 /// An open file is closed where it ends, where it fails, and where the next is begun.
 #[derive(Drop)]
-pub struct FileSource<R: std::rt::Files + Drop> {
+pub struct FileSource<R: Files + Drop> {
     rt: R,
     file: Option<R::File>,
     begins: u64,
     faults: u64,
 }
 
-impl<R: std::rt::Files + Drop> Model for FileSource<R> {
+impl<R: Files + Drop> Model for FileSource<R> {
     ghost use Rattle.std.specs.Prelude.{is_some};
-    ghost use Rattle.sv_base.specs.Devices.{Files};
+    ghost use Rattle.sv_base.specs.Devices.{FileState};
 
-    ghost Value = { Files };
+    ghost Value = { FileState };
 
     ghost view = { λ s. record { opened = is_some s.file; begins = s.begins; faults = s.faults } };
 }
 
-impl<R: std::rt::Files + Drop> FileSource<R> {
+impl<R: Files + Drop> FileSource<R> {
     /// The files that `rt` opens, of which none is begun.
     pub fn new(rt: R) -> FileSource<R>
         ensures { result ≡ record { opened = false; begins = 0; faults = 0 } }
@@ -44,7 +44,7 @@ impl<R: std::rt::Files + Drop> FileSource<R> {
     }
 }
 
-impl<R: std::rt::Files + Drop> Source for FileSource<R> {
+impl<R: Files + Drop> Source for FileSource<R> {
     ghost held = { λ s name. None };
 
     ghost left = { λ s. None };

@@ -1,7 +1,6 @@
-ghost use Rattle.std.specs.Prelude.{◌≡◌, ◌⊎◌, ◌↔◌, ◌-◌, ◌<◌, ◌≤◌, [], Some, IsErr, IfOk, OnErr, Contains, length, min};
+ghost use Rattle.std.specs.Prelude.{◌≡◌, ◌⊎◌, ◌↔◌, ◌-◌, ◌<◌, ◌≤◌, [], Some, IsErr, IsOk, IfOk, OnErr, Contains, length, min};
 ghost use Rattle.std.specs.Io.KnownBytes.{WriteAppends};
 ghost use Rattle.sv_base.specs.Causes.{HasCause, one_more};
-ghost use Rattle.sv_base.specs.Memory.{MemBytes};
 
 use crate::failed::Failed;
 use crate::sink::Sink;
@@ -24,7 +23,7 @@ pub struct MemSink {
 }
 
 impl Model for MemSink {
-    ghost use Rattle.std.specs.Prelude.{◌≤◌, length, vec_len, vec_capacity};
+    ghost use Rattle.std.specs.Prelude.{◌≤◌, length, vec_capacity};
     ghost use Rattle.sv_base.specs.Memory.{MemBytes};
 
     ghost Value = { MemBytes };
@@ -40,7 +39,8 @@ impl MemSink {
     /// The room is taken here, so that `write` takes no memory. Answers [`NoMemory`] where there is
     /// not so much.
     pub fn new(alloc: Global, room: u64, fails: Vec<u64>) -> Result<MemSink, NoMemory>
-        ensures { IfOk result (λ sink. sink ≡ record { written = []; room = room; fails = fails.items; calls = 0; faults = 0 }) }
+        ensures new { IfOk result (λ sink. sink ≡ record { written = []; room = room; fails = fails.items; calls = 0; faults = 0 }) }
+        ensures succeeds { room ≡ 0 → IsOk result }
     {
         let Ok(room) = usize::try_from(room) else {
             return Err(NoMemory);

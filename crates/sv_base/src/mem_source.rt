@@ -2,7 +2,7 @@ ghost use Rattle.std.specs.Prelude.{◌≡◌, ◌⊎◌, ◌↔◌, ◌+◌, �
 ghost use Rattle.std.specs.Io.{ReadsAtMost};
 ghost use Rattle.std.specs.Io.KnownBytes.{ReadConsumes};
 ghost use Rattle.sv_base.specs.Causes.{HasCause, one_more};
-ghost use Rattle.sv_base.specs.Memory.{MemFiles, IsSure, bytes_at, bytes_of, files_of, first_place};
+ghost use Rattle.sv_base.specs.Memory.{IsSure, bytes_at, bytes_of, files_of, first_place};
 ghost use Rattle.sv_base.specs.Streams.{IsSameFiles, goes_on};
 
 use crate::failed::Failed;

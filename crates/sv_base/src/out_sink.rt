@@ -1,6 +1,5 @@
 ghost use Rattle.std.specs.Prelude.{◌≡◌, ◌<◌, ◌≤◌, None, IfOk, OnErr, length};
 ghost use Rattle.sv_base.specs.Causes.{HasCause, one_more};
-ghost use Rattle.sv_base.specs.Devices.{Output};
 
 use crate::failed::Failed;
 use crate::sink::Sink;
@@ -26,9 +25,9 @@ pub struct OutSink<R: Print + Eprint + Drop> {
 }
 
 impl<R: Print + Eprint + Drop> Model for OutSink<R> {
-    ghost use Rattle.sv_base.specs.Devices.{Output};
+    ghost use Rattle.sv_base.specs.Devices.{StreamState};
 
-    ghost Value = { Output };
+    ghost Value = { StreamState };
 
     ghost view = { λ s. record { stream = s.stream; faults = s.faults } };
 }

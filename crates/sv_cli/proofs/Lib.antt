@@ -1,0 +1,4 @@
+pub mod Joined
+pub mod UnderWay
+pub mod Outcomes
+pub mod Exists

@@ -1,0 +1,11 @@
+-- The words of a command line.
+use Rattle.std.specs.Prelude.{◌≡◌, ℕ, List, [], ◌∷◌, map, codes}
+use Rattle.std.specs.Borrow.{Bor}
+
+-- the words as bytes
+abbrev pub texts : List (Bor (List ℕ)) → List (List ℕ)
+texts words = map (λ word. word.now) words
+
+-- the words are the command `events` and a file's name
+abbrev pub IsEvents : List (Bor (List ℕ)) → List ℕ → Type 0
+IsEvents words name = texts words ≡ codes "events" ∷ name ∷ []

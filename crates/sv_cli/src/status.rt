@@ -1,0 +1,38 @@
+/// How a command ended.
+#[derive(Clone, Copy, Debug, PartialEq, Eq)]
+pub enum Status {
+    /// The input was read to its end, and all of its text is written.
+    Done,
+    /// The words are no command.
+    Usage,
+    /// The file could not be opened, or not be read to its end.
+    ReadFault,
+    /// The output took less than the text.
+    WriteFault,
+    /// The file has more bytes than the limit.
+    TooLong { limit: u64 },
+    /// Memory was not to be had.
+    NoMemory,
+    /// The file is of a form that is not built yet: `place` is the offset, in bytes, of what is not.
+    Unbuilt { place: u64 },
+}
+
+impl Status {
+    ghost use Rattle.std.specs.Prelude.{◌≡◌};
+    ghost use Rattle.sv_cli.specs.Status.{code_of};
+
+    /// The exit code of a program that ends so: 0 for Done, 2 and above for all others.
+    pub fn code(&self) -> u8
+        ensures { result ≡ code_of self.now }
+    {
+        match self {
+            Status::Done => 0,
+            Status::Usage => 2,
+            Status::ReadFault => 3,
+            Status::WriteFault => 4,
+            Status::TooLong { .. } => 9,
+            Status::NoMemory => 10,
+            Status::Unbuilt { .. } => 11,
+        }
+    }
+}

@@ -1,0 +1,159 @@
+use super::*;
+use std::alloc::Global;
+use std::test::*;
+use sv_base::{MemSink, MemSource};
+
+/// What a run answered, and what its two sinks have.
+#[derive(Drop)]
+struct Answered {
+    status: Status,
+    out: MemSink,
+    err: MemSink,
+}
+
+fn sink(alloc: Global, fails: &[u64]) -> Result<MemSink, Fail> {
+    MemSink::new(alloc, 1 << 20, fails.to_vec(alloc)?)
+        .ok()
+        .ok_or("memory")
+        .map_err(Fail::from)
+}
+
+/// Runs the words over a source that holds these bytes as `f`, where calls of these numbers fail.
+fn run(
+    alloc: Global,
+    words: &[&str],
+    file: &[u8],
+    reads: &[u64],
+    writes: &[u64],
+) -> Result<Answered, Fail> {
+    let mut files = Vec::new(alloc);
+    files.push((String::from_str(alloc, "f")?, file.to_vec(alloc)?))?;
+    let mut src = MemSource::new(files, reads.to_vec(alloc)?);
+    let mut out = sink(alloc, writes)?;
+    let mut err = sink(alloc, &[])?;
+    let status = offline(alloc, words, &mut src, &mut out, &mut err);
+    Ok(Answered { status, out, err })
+}
+
+/// Ten zero bytes and these.
+fn synced(alloc: Global, bytes: &[u8]) -> Result<Vec<u8>, Fail> {
+    let mut file = [0u8; 10].to_vec(alloc)?;
+    file.extend_from_slice(bytes)?;
+    Ok(file)
+}
+
+#[test]
+fn files_and_their_lines(rt: HostRuntime) -> Result<(), Fail> {
+    let alloc = rt.alloc();
+    for (bytes, text) in [
+        ([0x0a, 0x00].as_slice(), "0 TRACE_START\nend clean\n"),
+        ([].as_slice(), "end clean\n"),
+        (
+            [0x0f, 0x05, 0x00, 0x04, 0x81, 0x02, 0x20].as_slice(),
+            "0 MARK_START 5\n32 TASK_START_EXEC 257\nend clean\n",
+        ),
+    ] {
+        let run = run(alloc, &["events", "f"], &synced(alloc, bytes)?, &[], &[])?;
+        assert_eq!(rt; run.status, Status::Done);
+        assert_eq!(rt; run.out.bytes(), text.as_bytes());
+        assert_eq!(rt; run.err.bytes(), [].as_slice());
+    }
+    Ok(())
+}
+
+#[test]
+fn files_that_are_not_built(rt: HostRuntime) -> Result<(), Fail> {
+    let alloc = rt.alloc();
+    let start = "0 TRACE_START\n";
+    for (file, place, text, line) in [
+        (Vec::new(alloc), 0, "", "not built at 0\n"),
+        ([0u8; 9].to_vec(alloc)?, 0, "", "not built at 0\n"),
+        (
+            synced(alloc, &[0x00, 0x0a, 0x05])?,
+            10,
+            "",
+            "not built at 10\n",
+        ),
+        (
+            synced(alloc, &[0x0a, 0x00, 0x18])?,
+            12,
+            start,
+            "not built at 12\n",
+        ),
+        (
+            synced(alloc, &[0x0a, 0x00, 0x02, 0x05])?,
+            12,
+            start,
+            "not built at 12\n",
+        ),
+    ] {
+        let run = run(alloc, &["events", "f"], &file, &[], &[])?;
+        assert_eq!(rt; run.status, Status::Unbuilt { place });
+        assert_eq!(rt; run.out.bytes(), text.as_bytes());
+        assert_eq!(rt; run.err.bytes(), line.as_bytes());
+    }
+    Ok(())
+}
+
+#[test]
+fn devices_that_fail(rt: HostRuntime) -> Result<(), Fail> {
+    let alloc = rt.alloc();
+    let words = ["events", "f"];
+    let start = synced(alloc, &[0x0a, 0x00])?;
+    // Call 1 is that of begin, call 2 the first read, call 3 the read that finds the end.
+    for call in [1u64, 2, 3] {
+        let run = run(alloc, &words, &start, &[call], &[])?;
+        assert_eq!(rt; run.status, Status::ReadFault, "at call {call}");
+        assert_eq!(rt; run.out.bytes(), [].as_slice());
+        assert_eq!(rt; run.err.bytes(), "read fault\n".as_bytes());
+    }
+    let written = run(alloc, &words, &start, &[], &[1])?;
+    assert_eq!(rt; written.status, Status::WriteFault);
+    assert_eq!(rt; written.out.bytes(), [].as_slice());
+    assert_eq!(rt; written.err.bytes(), "write fault\n".as_bytes());
+    // Few lines are one write, so a second one that would fail is never tried.
+    assert_eq!(rt; run(alloc, &words, &start, &[], &[2])?.status, Status::Done);
+    // A thousand lines of 11 bytes and more are two writes: the first has 10240 bytes or a line more.
+    let mut long = synced(alloc, &[])?;
+    for _ in 0..1000 {
+        long.extend_from_slice(&[0x03, 0x01])?;
+    }
+    let broken = run(alloc, &words, &long, &[], &[2])?;
+    assert_eq!(rt; broken.status, Status::WriteFault);
+    assert!(rt; broken.out.bytes().starts_with(b"1 ISR_EXIT\n2 ISR_EXIT\n"));
+    assert!(rt; broken.out.bytes().len() >= 10240 && broken.out.bytes().len() < 10260);
+    Ok(())
+}
+
+#[test]
+fn words_and_codes(rt: HostRuntime) -> Result<(), Fail> {
+    let alloc = rt.alloc();
+    let usage = "usage: sysview events F\n".as_bytes();
+    for words in [
+        [].as_slice(),
+        ["report"].as_slice(),
+        ["events"].as_slice(),
+        ["events", "f", "f"].as_slice(),
+        ["--help"].as_slice(),
+    ] {
+        let run = run(alloc, words, &[], &[], &[])?;
+        assert_eq!(rt; run.status, Status::Usage);
+        assert_eq!(rt; run.err.bytes(), usage);
+    }
+    for (status, code, line) in [
+        (Status::Done, 0, ""),
+        (
+            Status::TooLong { limit: 1 << 33 },
+            9,
+            "longer than 8589934592\n",
+        ),
+        (Status::NoMemory, 10, "no memory\n"),
+        (Status::Unbuilt { place: 12 }, 11, "not built at 12\n"),
+    ] {
+        let mut err = sink(alloc, &[])?;
+        tell(&mut err, &status);
+        assert_eq!(rt; status.code(), code);
+        assert_eq!(rt; err.bytes(), line.as_bytes());
+    }
+    Ok(())
+}

@@ -1,9 +1,9 @@
 -- Each file fixes one text and one end.
-use Rattle.std.proofs.Common.{◌≡◌, ◌≢◌, ◌⊎◌, ℕ, zero, suc, ◌+◌, ◌^◌, ◌<◌, ◌≤◌, List, [], ◌∷◌, ◌++◌, length, take, drop, Option, Some, None, refl, sym, ap, subst, ◌∙◌, append_assoc, arith, inl, inr}
+use Rattle.std.proofs.Common.{◌≡◌, ◌≢◌, ◌⊎◌, ℕ, zero, suc, ◌+◌, ◌^◌, ◌≤◌, List, [], ◌∷◌, ◌++◌, length, take, drop, Option, Some, None, refl, sym, ap, subst, ◌∙◌, inl, inr}
 use Rattle.std.specs.Prelude.{slice_get, IfSome}
 use Rattle.std.specs.Io.KnownBytes.{Appends}
 use Rattle.std.proofs.lemmas.Bool.{cases_eq}
-use Rattle.std.proofs.lemmas.List.{take-append-drop, append-nil, append_cancel_left}
+use Rattle.std.proofs.lemmas.List.{take-append-drop, append_cancel_left}
 use Rattle.sv_packet.specs.declared.event.Packet.{Packet}
 use Rattle.sv_packet.proofs.Once.{packets_once}
 use Rattle.sv_packet.proofs.Totality.{packets_exist}

@@ -1,16 +1,16 @@
 -- What a file comes to, beside how far its packets' lines are written.
-use Rattle.std.proofs.Common.{◌≡◌, ◌≢◌, ◌⊎◌, ℕ, ◌+◌, ◌-◌, ◌<◌, ◌≤◌, List, [], ◌∷◌, ◌++◌, length, take, drop, Option, Some, None, refl, sym, ap, subst, ◌∙◌, append_assoc, arith, inl, inr}
-use Rattle.std.specs.Prelude.{flat_map, slice_get, replicate}
+use Rattle.std.proofs.Common.{◌≡◌, ◌≢◌, ℕ, ◌+◌, ◌<◌, ◌≤◌, List, [], ◌∷◌, ◌++◌, length, take, drop, Option, Some, sym, ap, subst, ◌∙◌, append_assoc, arith, inl, inr}
+use Rattle.std.specs.Prelude.{flat_map, slice_get}
 use Rattle.std.specs.Io.KnownBytes.{Appends}
-use Rattle.std.proofs.lemmas.List.{take-append-drop, length-append, length-take, length-drop, append-nil, append_cancel_left, take-append-le, take-take}
+use Rattle.std.proofs.lemmas.List.{take-append-drop, length-take, append-nil, append_cancel_left, take-append-le}
 use Rattle.std.proofs.lemmas.List.Concat.{flat_map-append}
 use Rattle.std.proofs.Math.Seq.{take-append_seam}
 use Rattle.sv_base.specs.Streams.{AppendsPart}
 use Rattle.sv_base.proofs.Writing.{Appends-then}
 use Rattle.sv_packet.specs.declared.event.Packet.{Packet}
-use Rattle.sv_packet.specs.Packets.{ArePackets, BeginsWithNone}
+use Rattle.sv_packet.specs.Packets.{BeginsWithNone}
 use Rattle.sv_packet.specs.Time.{timed}
-use Rattle.sv_packet.proofs.Once.{packets_front, packets_once, no_packet}
+use Rattle.sv_packet.proofs.Once.{packets_front, packets_once}
 use Rattle.sv_packet.proofs.Times.{timed-append, timed_behind}
 use Rattle.sv_cli.specs.declared.end.End.{End}
 use Rattle.sv_cli.specs.declared.end.End.TheVariants.{Clean, Unbuilt}

@@ -1,17 +1,16 @@
 -- One more packet on the way through the bytes.
-use Rattle.std.proofs.Common.{◌≡◌, ℕ, ◌+◌, ◌*◌, ◌^◌, ◌<◌, ◌≤◌, List, [], ◌∷◌, ◌++◌, length, take, drop, Option, Some, None, Result, Ok, Err, refl, sym, ap, subst, ◌∙◌, append_assoc, arith}
+use Rattle.std.proofs.Common.{◌≡◌, ℕ, ◌+◌, ◌^◌, ◌<◌, ◌≤◌, List, [], ◌∷◌, ◌++◌, length, take, drop, Option, Some, None, Result, Ok, Err, refl, sym, ap, subst, ◌∙◌, append_assoc, arith}
 use Rattle.std.specs.Prelude.{flat_map, OnErr}
 use Rattle.std.specs.Io.KnownBytes.{Appends}
 use Rattle.std.proofs.lemmas.List.{take-append-drop, length-append, length-take, append-nil}
 use Rattle.std.proofs.lemmas.List.Concat.{flat_map-append}
-use Rattle.std.proofs.Math.Seq.{take-append_seam, take-append-add, take-add}
+use Rattle.std.proofs.Math.Seq.{take-append_seam, take-append-add}
 use Rattle.sv_prim.specs.Code.{Begins}
 use Rattle.sv_base.specs.Streams.{AppendsPart}
 use Rattle.sv_base.proofs.Writing.{Appends-then}
 use Rattle.sv_packet.specs.declared.event.Packet.{Packet}
 use Rattle.sv_packet.specs.declared.event.TimedEvent.{TimedEvent}
 use Rattle.sv_packet.specs.Packet.{IsPacket}
-use Rattle.sv_packet.specs.Packets.{ArePackets}
 use Rattle.sv_packet.specs.Time.{time_of, timed}
 use Rattle.sv_packet.proofs.Once.{packet_size, ArePackets-push}
 use Rattle.sv_packet.proofs.Times.{time_of-push, timed-push}

@@ -1,5 +1,5 @@
 -- The lines of `events` (the names are UM08027's): the time, the event's name and its numbers.
-use Rattle.std.specs.Prelude.{ℕ, List, [], ◌∷◌, ◌++◌, map, flat_map, codes}
+use Rattle.std.specs.Prelude.{ℕ, List, ◌∷◌, ◌++◌, map, flat_map, codes}
 use Rattle.std.specs.List.{join_with_byte}
 use Rattle.std.specs.Fmt.{decimal}
 use Rattle.sv_packet.specs.declared.event.Packet.{Packet}

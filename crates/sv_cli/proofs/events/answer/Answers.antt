@@ -1,4 +1,3 @@
-use Rattle.std.proofs.Common.{◌≡◌}
 use Rattle.sv_cli.proofs.Exists.{clean, unbuilt, starved, unwritten}
 use Rattle.sv_cli.proofs.events.answer.Goals as goal
 

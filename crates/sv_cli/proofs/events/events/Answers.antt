@@ -1,4 +1,3 @@
-use Rattle.std.proofs.Common.{◌≡◌}
 use Rattle.sv_cli.proofs.Exists.{all_unread}
 use Rattle.sv_cli.proofs.events.events.Goals as goal
 

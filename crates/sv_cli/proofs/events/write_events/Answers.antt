@@ -1,10 +1,8 @@
-use Rattle.std.proofs.Common.{◌≡◌, ◌+◌, ◌-◌, ◌<◌, ◌≤◌, ◌∙◌, ◌++◌, ℕ, List, [], length, drop, sym, ap, subst, arith, Result, Ok, Err}
-use Rattle.std.specs.Prelude.{OnErr}
+use Rattle.std.proofs.Common.{◌≡◌, ◌+◌, ◌≤◌, ◌∙◌, ◌++◌, ℕ, List, [], length, drop, ap, subst, arith}
 use Rattle.std.proofs.lemmas.List.{length-drop, length-append, nil_from_length}
 use Rattle.std.specs.Io.KnownBytes.{Appends}
 use Rattle.sv_base.specs.Streams.{AppendsPart}
 use Rattle.sv_cli.specs.declared.end.End.TheVariants.{Unbuilt}
-use Rattle.sv_cli.specs.Lines.{end_clean}
 use Rattle.sv_cli.proofs.UnderWay.{on_err, so_far, in_lines}
 use Rattle.sv_cli.proofs.Outcomes.{part_of_text, unbuilt_told, done_told, done_part}
 use Rattle.sv_cli.proofs.events.write_events.Goals as goal

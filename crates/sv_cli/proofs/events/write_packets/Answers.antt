@@ -1,11 +1,7 @@
-use Rattle.std.proofs.Common.{◌≡◌, ◌+◌, ◌∙◌, ◌++◌, ℕ, List, drop, sym, ap, subst, refl, arith, length, Result, Ok, Err}
-use Rattle.std.specs.Prelude.{OnErr}
-use Rattle.std.proofs.lemmas.List.{drop-drop, length-drop, append-nil}
-use Rattle.std.specs.Io.KnownBytes.{Appends}
-use Rattle.sv_cli.specs.Growth.{Moves}
+use Rattle.std.proofs.Common.{◌≡◌, ◌+◌, ◌∙◌, ◌++◌, ℕ, drop, ap, refl, arith}
+use Rattle.std.proofs.lemmas.List.{drop-drop, length-drop}
 use Rattle.sv_cli.specs.Lines.{event_line}
-use Rattle.sv_cli.specs.Progress.{IsUnderWay}
-use Rattle.sv_cli.proofs.UnderWay.{on_err, begun, so_far, room, next, in_piece, event_behind}
+use Rattle.sv_cli.proofs.UnderWay.{on_err, begun, so_far, next, in_piece}
 use Rattle.sv_cli.proofs.events.write_packets.Goals as goal
 
 pub loop-packet-init : goal.loop-packet-init

@@ -13,7 +13,9 @@ use sv_base::{Sink, Source};
 
 /// The file of which the words ask the events.
 fn file_of_events<'a>(words: &[&'a str]) -> Option<&'a str>
-    ensures { MatchOption result ((name : List ℕ) → IsEvents words.now name → ⊥) (λ file. IsEvents words.now file.now) }
+    ensures { MatchOption result
+        ((name : List ℕ) → IsEvents words.now name → ⊥)
+        (λ file. IsEvents words.now file.now) }
 {
     match words {
         ["events", name] => Some(name),
@@ -43,9 +45,12 @@ pub fn offline<S: Source, K: Sink>(
         IfSome (S.held src.old name) (λ file. IsAnswer file (K.written out.old) (K.written out.new) result) }
 
     // A file that can be read is: it is begun once, and only its own device is to blame.
-    ensures begins { (name : List ℕ) → IsEvents words.now name → S.begins src.new ≡ one_more (S.begins src.old) }
-    ensures sure { (name : List ℕ) → IsEvents words.now name → S.sure src.old name → result ≢ Status.ReadFault }
-    ensures read { result ≡ Status.ReadFault → Rose (S.faults src.old) (S.faults src.new) × (out.new ≡ out.old) }
+    ensures begins { (name : List ℕ) → IsEvents words.now name →
+        S.begins src.new ≡ one_more (S.begins src.old) }
+    ensures sure { (name : List ℕ) → IsEvents words.now name →
+        S.sure src.old name → result ≢ Status.ReadFault }
+    ensures read { result ≡ Status.ReadFault →
+        Rose (S.faults src.old) (S.faults src.new) × (out.new ≡ out.old) }
     ensures read_kept { result ≢ Status.ReadFault → S.faults src.new ≡ S.faults src.old }
     ensures long { (limit : ℕ) → result ≡ Status.TooLong limit → (limit ≡ 2 ^ 33) × (out.new ≡ out.old) }
 
@@ -54,7 +59,8 @@ pub fn offline<S: Source, K: Sink>(
     ensures write_kept { result ≢ Status.WriteFault → K.faults out.new ≡ K.faults out.old }
 
     // The error sink has the status's line, or has failed within it.
-    ensures said { Says (error_line result) (K.written err.old) (K.written err.new) (K.faults err.old) (K.faults err.new) }
+    ensures said { Says (error_line result)
+        (K.written err.old) (K.written err.new) (K.faults err.old) (K.faults err.new) }
 {
     let status = match file_of_events(words) {
         Some(name) => events(alloc, name, src, out),

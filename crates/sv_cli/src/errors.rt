@@ -48,7 +48,8 @@ fn line_of(status: &Status) -> Line
 /// Tells the error sink of a status other than Done, in one line. It takes no memory, and a write
 /// that fails changes nothing else.
 pub fn tell<K: Sink>(err: &mut K, status: &Status)
-    ensures { Says (error_line status.now) (K.written err.old) (K.written err.new) (K.faults err.old) (K.faults err.new) }
+    ensures { Says (error_line status.now)
+        (K.written err.old) (K.written err.new) (K.faults err.old) (K.faults err.new) }
 {
     let _ = put_all(err, line_of(status).as_str().as_bytes());
 }

@@ -32,7 +32,9 @@ const PIECE: usize = 10 * 1024;
 /// The packet at the place, and how many bytes it has.
 fn packet_at(alloc: Global, bytes: &[u8], at: usize) -> Result<Option<(Packet, usize)>, NoMemory>
     requires { at ≤ length bytes.now }
-    ensures { IfOk result (λ found. MatchOption found (BeginsWithNone (drop at bytes.now)) (λ x. Begins IsPacket (drop at bytes.now) x.0 x.1)) }
+    ensures { IfOk result (λ found.
+        MatchOption found (BeginsWithNone (drop at bytes.now))
+        (λ x. Begins IsPacket (drop at bytes.now) x.0 x.1)) }
 {
     match decode(alloc, &bytes[at..])? {
         Got::Value { value, used } => Ok(Some((value, used))),
@@ -66,7 +68,8 @@ fn write_packets<K: Sink>(
     requires short { length bytes.now ≤ 2 ^ 33 }
     requires empty { lines.old.items ≡ [] }
     ensures within { IfOk result (λ size. size ≤ length bytes.now) }
-    ensures ok { IfOk result (λ size. (time : ℕ) × IsUnderWay bytes.now (K.written out.old) (K.written out.new) lines.new.items (drop size bytes.now) time) }
+    ensures ok { IfOk result (λ size. (time : ℕ) × IsUnderWay bytes.now
+        (K.written out.old) (K.written out.new) lines.new.items (drop size bytes.now) time) }
     ensures stops { IfOk result (λ size. BeginsWithNone (drop size bytes.now)) }
     ensures part { OnErr result (IsPartWritten bytes.now (K.written out.old) (K.written out.new)) }
     ensures kept { OnOk result (K.faults out.new ≡ K.faults out.old) }
@@ -87,7 +90,9 @@ fn write_packets<K: Sink>(
 /// The bytes behind the ten zeros, or the place at which the file is of no form that is built.
 fn packets_of(file: &[u8]) -> Result<&[u8], u64>
     ensures ok { IfOk result (λ packets. (file.now ≡ zeros ++ packets.now) × (slice_get file.now 10 ≢ Some 0)) }
-    ensures err { IfErr result (λ place. ((take 10 file.now ≢ zeros) × (place ≡ 0)) ⊎ ((take 10 file.now ≡ zeros) × (slice_get file.now 10 ≡ Some 0) × (place ≡ 10))) }
+    ensures err { IfErr result (λ place.
+        ((take 10 file.now ≢ zeros) × (place ≡ 0))
+        ⊎ ((take 10 file.now ≡ zeros) × (slice_get file.now 10 ≡ Some 0) × (place ≡ 10))) }
 {
     if !file.starts_with(&ZEROS) {
         return Err(0);
@@ -101,8 +106,10 @@ fn packets_of(file: &[u8]) -> Result<&[u8], u64>
 /// Writes the events of the file's bytes, and says how the file ends.
 fn write_events<K: Sink>(alloc: Global, file: &[u8], out: &mut K) -> Result<End, Fault>
     requires short { length file.now ≤ 2 ^ 33 }
-    ensures told { (text : List ℕ) (end : End) → IsOutcome file.now text end → IfOk result (λ found. (found ≡ end) × Appends (K.written out.old) (K.written out.new) text) }
-    ensures part { (text : List ℕ) (end : End) → IsOutcome file.now text end → OnErr result (AppendsPart (K.written out.old) (K.written out.new) text) }
+    ensures told { (text : List ℕ) (end : End) → IsOutcome file.now text end →
+        IfOk result (λ found. (found ≡ end) × Appends (K.written out.old) (K.written out.new) text) }
+    ensures part { (text : List ℕ) (end : End) → IsOutcome file.now text end →
+        OnErr result (AppendsPart (K.written out.old) (K.written out.new) text) }
     ensures kept { OnOk result (K.faults out.new ≡ K.faults out.old) }
     ensures fault { IfErr result (HasFault (K.faults out.old) (K.faults out.new)) }
 {
@@ -142,7 +149,8 @@ fn answer<K: Sink>(alloc: Global, file: &[u8], out: &mut K) -> Status
 fn read_file<S: Source>(alloc: Global, name: &str, src: &mut S) -> Result<Vec<u8>, Status>
     ensures whole { IfOk result (λ file. IfSome (S.held src.old name.now) (λ bytes. bytes ≡ file.items)) }
     ensures short { IfOk result (λ file. vec_len file ≤ 2 ^ 33) }
-    ensures unread { IfErr result (λ status. IfSome (S.held src.old name.now) (λ bytes. IsUnread bytes status)) }
+    ensures unread { IfErr result (λ status.
+        IfSome (S.held src.old name.now) (λ bytes. IsUnread bytes status)) }
     ensures which { IfErr result (λ status. IsReadEnd status) }
     ensures begins { S.begins src.new ≡ one_more (S.begins src.old) }
     ensures sure { S.sure src.old name.now → result ≢ Err Status.ReadFault }
@@ -162,12 +170,14 @@ fn read_file<S: Source>(alloc: Global, name: &str, src: &mut S) -> Result<Vec<u8
 
 /// Writes the events of the file of the name: a line for each event, and the end line.
 pub fn events<S: Source, K: Sink>(alloc: Global, name: &str, src: &mut S, out: &mut K) -> Status
-    ensures told { IfSome (S.held src.old name.now) (λ file. IsAnswer file (K.written out.old) (K.written out.new) result) }
+    ensures told { IfSome (S.held src.old name.now)
+        (λ file. IsAnswer file (K.written out.old) (K.written out.new) result) }
     ensures usage { result ≢ Status.Usage }
 
     ensures begins { S.begins src.new ≡ one_more (S.begins src.old) }
     ensures sure { S.sure src.old name.now → result ≢ Status.ReadFault }
-    ensures read { result ≡ Status.ReadFault → Rose (S.faults src.old) (S.faults src.new) × (out.new ≡ out.old) }
+    ensures read { result ≡ Status.ReadFault →
+        Rose (S.faults src.old) (S.faults src.new) × (out.new ≡ out.old) }
     ensures read_kept { result ≢ Status.ReadFault → S.faults src.new ≡ S.faults src.old }
 
     ensures long { (limit : ℕ) → result ≡ Status.TooLong limit → (limit ≡ 2 ^ 33) × (out.new ≡ out.old) }

@@ -1,5 +1,5 @@
 //! The lines of `events`, appended to a buffer.
-ghost use Rattle.std.specs.Prelude.{◌≡◌, ◌++◌, ◌∷◌, OnOk, OnErr, map, flat_map, take, length};
+ghost use Rattle.std.specs.Prelude.{◌≡◌, ◌++◌, ◌∷◌, OnOk, OnErr, map, flat_map};
 ghost use Rattle.std.specs.Fmt.{decimal};
 ghost use Rattle.sv_cli.specs.Growth.{Grows};
 ghost use Rattle.sv_cli.specs.Lines.{line_of, event_line as line_of_event, spaced};
@@ -23,7 +23,8 @@ fn put_numbers(numbers: &[u32], out: &mut Vec<u8>) -> Result<(), AllocError>
 
 /// Appends a line: the time, a name and numbers, parted by one space.
 fn put_line(time: u64, name: &str, numbers: &[u32], out: &mut Vec<u8>) -> Result<(), AllocError>
-    ensures ok { OnOk result (out.new.items ≡ out.old.items ++ line_of (decimal time ∷ name.now ∷ map decimal numbers.now)) }
+    ensures ok { OnOk result
+        (out.new.items ≡ out.old.items ++ line_of (decimal time ∷ name.now ∷ map decimal numbers.now)) }
     ensures err { OnErr result (Grows out.old.items out.new.items) }
 {
     out.extend_from_slice(Buffer::new().format(time).as_bytes())?;

@@ -3,3 +3,7 @@ pub mod Packets
 pub mod Once
 pub mod Times
 pub mod Totality
+pub mod Spelled
+pub mod Forming
+pub mod Known
+pub mod Flats

@@ -3,3 +3,8 @@ pub mod Packet
 pub mod Packets
 pub mod Time
 pub mod Reader
+pub mod AnyEvent
+pub mod Fields
+pub mod Spelled
+pub mod Spelling
+pub mod Flat

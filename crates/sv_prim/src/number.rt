@@ -1,7 +1,8 @@
-ghost use Rattle.std.specs.Prelude.{◌≡◌, ℕ, ◌+◌, ◌*◌, ◌%◌, ◌^◌, ◌<◌, ◌≤◌, ◌↔◌, ◌⊎◌, IsTrue};
+ghost use Rattle.std.specs.Prelude.{◌≡◌, ℕ, ◌+◌, ◌*◌, ◌%◌, ◌^◌, ◌<◌, ◌≤◌, ◌↔◌, ◌⊎◌, ◌++◌, length, IsTrue};
 ghost use Rattle.sv_prim.specs.Code.{Tells, IsOnly};
-ghost use Rattle.sv_prim.specs.Number.{IsNumber, number_reason};
+ghost use Rattle.sv_prim.specs.Number.{IsNumber, number_reason, number_spelling};
 
+use crate::buf::Buf;
 use crate::got::{Got, Reason};
 
 /// Whether no number goes on with this byte: it is a last group that adds nothing, or it has bits
@@ -48,4 +49,21 @@ pub fn get_u32(bytes: &[u8]) -> Got<u32>
         }
     }
     Got::Short
+}
+
+/// Adds the number's one spelling to the buffer (UM08027, encoding of U32): seven bits in each byte,
+/// the least significant group first, bit 7 set on all but the last.
+///
+/// It adds one to five bytes: one below 2^7, two below 2^14, three below 2^21, four below 2^28. It
+/// takes no memory, and does not fail.
+pub fn put_u32(v: u32, out: &mut Buf)
+    requires { length out.old.items + 5 ≤ 256 }
+    ensures { out.new.items ≡ out.old.items ++ number_spelling v }
+{
+    let mut rest = v;
+    while rest >= 0x80 {
+        out.push((rest % 0x80) as u8 + 0x80);
+        rest /= 0x80;
+    }
+    out.push(rest as u8);
 }

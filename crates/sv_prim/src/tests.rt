@@ -42,3 +42,36 @@ fn the_text_of_the_error(rt: HostRuntime) -> Result<(), Fail> {
     assert_eq!(rt; format!(in alloc; "{NoMemory}")?.as_str(), "no memory");
     Ok(())
 }
+
+#[test]
+fn numbers_added(rt: HostRuntime) {
+    for (v, want) in [
+        (0, [0x00].as_slice()),
+        (127, [0x7f].as_slice()),
+        (128, [0x80, 0x01].as_slice()),
+        (300, [0xac, 0x02].as_slice()),
+        (16384, [0x80, 0x80, 0x01].as_slice()),
+        (1000000, [0xc0, 0x84, 0x3d].as_slice()),
+        (536870912, [0x80, 0x80, 0x80, 0x80, 0x02].as_slice()),
+        (4294967295, [0xff, 0xff, 0xff, 0xff, 0x0f].as_slice()),
+    ] {
+        let mut out = Buf::new();
+        put_u32(v, &mut out);
+        assert_eq!(rt; out.as_slice(), want, "of {v}");
+        put_u32(0, &mut out);
+        assert_eq!(rt; out.len(), want.len() + 1, "behind {v}");
+    }
+}
+
+#[test]
+fn ticks_between(rt: HostRuntime) {
+    for (now, last, want) in [
+        (4294967312, 4294967280, 32),
+        (7, 7, 0),
+        (4294967295, 0, 4294967295),
+        (4294967296, 0, 0),
+        (18446744073709551615, 1, 4294967294),
+    ] {
+        assert_eq!(rt; delta(now, last), want, "from {last} to {now}");
+    }
+}

@@ -1,0 +1,7 @@
+pub mod Digits
+pub mod FirstLine
+pub mod Needs
+pub mod Scripts
+pub mod Steps
+pub mod Once
+mod Examples

@@ -1,0 +1,72 @@
+-- How many items and bytes a journal of a workload and its stream have at most.
+use Rattle.std.specs.Prelude.{◌≡◌, ℕ, ◌+◌, ◌*◌, ◌<◌, ◌≤◌, length, sum_by, Bool, true, false, All}
+use Rattle.sv_packet.specs.AnyEvent.{whole}
+use Rattle.sv_packet.specs.Spelling.{spelling_of}
+use Rattle.sv_workload.specs.declared.load.Act.{Act}
+use Rattle.sv_workload.specs.declared.load.Act.TheVariants.{Event, Start, Stop}
+use Rattle.sv_workload.specs.declared.load.Step.{Step}
+use Rattle.sv_workload.specs.declared.load.Need.{Need}
+use Rattle.sv_workload.specs.Load.{Load}
+
+abbrev pub is_start_act : Act → Bool
+is_start_act Start = true
+is_start_act Stop = false
+is_start_act (Event event) = false
+
+abbrev pub is_stop_act : Act → Bool
+is_stop_act Stop = true
+is_stop_act Start = false
+is_stop_act (Event event) = false
+
+-- a number for each step, summed over all scripts
+abbrev pub over_steps : (Step → ℕ) → Load → ℕ
+over_steps f load = sum_by (λ script. sum_by f script) load.scripts
+
+-- 1 for a test that holds
+abbrev pub one_if : Bool → ℕ
+one_if true = 1
+one_if false = 0
+
+abbrev pub steps_in : Load → ℕ
+steps_in load = over_steps (λ s. 1) load
+
+abbrev pub starts_in : Load → ℕ
+starts_in load = over_steps (λ s. one_if (is_start_act s.act)) load
+
+abbrev pub stops_in : Load → ℕ
+stops_in load = over_steps (λ s. one_if (is_stop_act s.act)) load
+
+-- the packets that a start or a command records at most
+abbrev pub replies_in : Load → ℕ
+replies_in load = 4 + length load.lines + 2 * length load.tasks + length load.modules
+
+-- the bytes of an event step's packet and of its overflow, with the longest deltas
+abbrev pub act_bytes : Act → ℕ
+act_bytes (Event event) = length (spelling_of (whole event) 0) + 15
+act_bytes Start = 0
+act_bytes Stop = 17
+
+abbrev pub need_items : Load → ℕ
+need_items load = 3 * steps_in load + (starts_in load + length load.commands) * (2 + 2 * replies_in load)
+
+abbrev pub need_bytes : Load → ℕ
+need_bytes load = 16 + over_steps (λ s. act_bytes s.act) load + (starts_in load + length load.commands) * (27 + 156 * replies_in load)
+
+-- the most of everything that a workload holds
+pub record IsWithinLimits (load : Load) : Type 0 where
+  pub writers : length load.scripts ≤ 16
+  pub steps : steps_in load ≤ 1048576
+  pub starts : starts_in load ≤ 256
+  pub commands : length load.commands ≤ 256
+  pub lines : length load.lines ≤ 4
+  pub tasks : length load.tasks ≤ 32
+  pub modules : length load.modules ≤ 64
+  pub advances : All (λ script. All (λ s. s.advance ≤ 8589934592) script) load.scripts
+
+-- the need is that of the workload, which is within the limits
+pub record HasNeed (load : Load) (need : Need) : Type 0 where
+  pub limits : IsWithinLimits load
+  pub items : need.items ≡ need_items load
+  pub bytes : need.bytes ≡ need_bytes load
+  pub few : need.items < 3400000
+  pub short : need.bytes < 181000000

@@ -1,0 +1,20 @@
+ghost use Rattle.std.specs.Prelude.{◌≡◌, ◌<◌, ◌==◌, length, position};
+ghost use Rattle.sv_workload.specs.Reading.{IsNext};
+
+/// Where the first line ends, if a line feed ends it.
+fn line_end(text: &[u8]) -> Option<usize>
+    ensures { result ≡ position (λ b. b == 10) text.now }
+{
+    text.iter().position(|byte| *byte == b'\n')
+}
+
+/// The first line of a text, and what stands behind it.
+pub fn first_line(text: &[u8]) -> (&[u8], &[u8])
+    requires { 0 < length text.now }
+    ensures { IsNext text.now result.0.now result.1.now }
+{
+    match line_end(text) {
+        Some(place) => (&text[..place], &text[place + 1..]),
+        None => (text, &text[text.len()..]),
+    }
+}

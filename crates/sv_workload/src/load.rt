@@ -1,0 +1,217 @@
+ghost use Rattle.std.specs.Prelude.{◌≡◌, ◌<◌, length, IfOk};
+ghost use Rattle.sv_workload.specs.Load.{script_of};
+ghost use Rattle.sv_workload.specs.Need.{need_items, need_bytes, IsWithinLimits, HasNeed};
+ghost use Rattle.sv_workload.specs.Form.{one_writer};
+
+use std::alloc::Global;
+use std::marker::Model;
+use sv_packet::Event;
+use sv_prim::{Bytes, NoMemory};
+
+/// A task, with its identifier as the target names it.
+#[derive(Debug, Drop)]
+pub struct Task {
+    pub id: u32,
+    pub priority: u32,
+    pub stack_base: u32,
+    pub stack_size: u32,
+    pub extra: u32,
+    pub name: Bytes,
+}
+
+/// What the host asks: a byte, and a parameter from the byte 128 on.
+#[derive(Debug, Clone, Copy, PartialEq, Eq, Drop)]
+pub struct Command {
+    pub byte: u8,
+    pub param: u8,
+}
+
+/// What a step does.
+#[derive(Debug, Drop)]
+pub enum Act {
+    Event(Event),
+    Start,
+    Stop,
+}
+
+/// A step of a writer, and the ticks that pass before it.
+#[derive(Debug, Drop)]
+pub struct Step {
+    pub advance: u64,
+    pub act: Act,
+}
+
+/// A line of the schedule.
+#[derive(Debug, Clone, Copy, PartialEq, Eq, Drop)]
+pub enum Action {
+    Step { writer: u32, count: u32 },
+    Read { most: u32 },
+    Send,
+}
+
+/// How many items and bytes a journal and its stream have at most.
+#[derive(Debug, Clone, Copy, PartialEq, Eq, Drop)]
+pub struct Need {
+    pub items: u64,
+    pub bytes: u64,
+}
+
+/// A registered module: how many events it may send, and what describes them. Modules are numbered in their order.
+#[derive(Debug, Drop)]
+pub struct ModuleRow {
+    pub events: u32,
+    pub name: Bytes,
+}
+
+/// What the writers of a run do: the settings, what there is to describe, and what each writer and the host do.
+#[derive(Debug, Drop)]
+pub struct Workload {
+    ring: u32,
+    clock: u32,
+    cpu: u32,
+    base: u32,
+    shift: u32,
+    timed: bool,
+    lines: Vec<Bytes>,
+    tasks: Vec<Task>,
+    modules: Vec<ModuleRow>,
+    commands: Vec<Command>,
+    writers: Vec<Vec<Step>>,
+    schedule: Vec<Action>,
+    need: Need,
+}
+
+impl Model for Workload {
+    ghost use Rattle.std.specs.Prelude.{List, map};
+    ghost use Rattle.sv_workload.specs.Load.{Load};
+    ghost use Rattle.sv_workload.specs.Need.{HasNeed};
+
+    ghost Value = { Load };
+
+    ghost view = { λ w. record { ring = w.ring; clock = w.clock; cpu = w.cpu; base = w.base; shift = w.shift; timed = w.timed; lines = w.lines.items; tasks = w.tasks.items; modules = w.modules.items; commands = w.commands.items; scripts = map (λ s. s.items) w.writers.items; schedule = w.schedule.items } };
+
+    ghost invariant = { λ w. HasNeed (record { ring = w.ring; clock = w.clock; cpu = w.cpu; base = w.base; shift = w.shift; timed = w.timed; lines = w.lines.items; tasks = w.tasks.items; modules = w.modules.items; commands = w.commands.items; scripts = map (λ s. s.items) w.writers.items; schedule = w.schedule.items }) w.need };
+}
+
+impl Workload {
+    /// A workload of one writer, with all else as it is where nothing is said of it.
+    pub fn one_writer(alloc: Global, steps: Vec<Step>, need: Need) -> Result<Workload, NoMemory>
+        requires { HasNeed (one_writer steps.items) need }
+        ensures { IfOk result (λ load. load ≡ one_writer steps.items) }
+    {
+        let mut writers = Vec::new(alloc);
+        if writers.push(steps).is_err() {
+            return Err(NoMemory);
+        }
+        Ok(Workload {
+            ring: 1024,
+            clock: 1000000,
+            cpu: 1000000,
+            base: 536870912,
+            shift: 2,
+            timed: false,
+            lines: Vec::new(alloc),
+            tasks: Vec::new(alloc),
+            modules: Vec::new(alloc),
+            commands: Vec::new(alloc),
+            writers,
+            schedule: Vec::new(alloc),
+            need,
+        })
+    }
+
+    /// The size of the up ring.
+    pub fn ring(&self) -> u32
+        ensures { result ≡ self.now.ring }
+    {
+        self.ring
+    }
+
+    /// The frequency of the system.
+    pub fn clock(&self) -> u32
+        ensures { result ≡ self.now.clock }
+    {
+        self.clock
+    }
+
+    /// The frequency of the processor.
+    pub fn cpu(&self) -> u32
+        ensures { result ≡ self.now.cpu }
+    {
+        self.cpu
+    }
+
+    /// What identifiers are counted from.
+    pub fn base(&self) -> u32
+        ensures { result ≡ self.now.base }
+    {
+        self.base
+    }
+
+    /// By how many bits identifiers are shortened.
+    pub fn shift(&self) -> u32
+        ensures { result ≡ self.now.shift }
+    {
+        self.shift
+    }
+
+    /// Whether the system tells its time in microseconds.
+    pub fn timed(&self) -> bool
+        ensures { result ≡ self.now.timed }
+    {
+        self.timed
+    }
+
+    /// The lines that describe the system.
+    pub fn lines(&self) -> &[Bytes]
+        ensures { result.now ≡ self.now.lines }
+    {
+        self.lines.as_slice()
+    }
+
+    pub fn tasks(&self) -> &[Task]
+        ensures { result.now ≡ self.now.tasks }
+    {
+        self.tasks.as_slice()
+    }
+
+    /// What the host asks, in order.
+    pub fn commands(&self) -> &[Command]
+        ensures { result.now ≡ self.now.commands }
+    {
+        self.commands.as_slice()
+    }
+
+    /// How many writers there are.
+    pub fn writers(&self) -> u32
+        ensures count { result ≡ length self.now.scripts }
+        ensures limits { IsWithinLimits self.now }
+    {
+        self.writers.len() as u32
+    }
+
+    /// The steps of a writer, in order.
+    pub fn steps(&self, writer: u32) -> &[Step]
+        requires { writer < length self.now.scripts }
+        ensures { result.now ≡ script_of self.now writer }
+    {
+        self.writers[writer as usize].as_slice()
+    }
+
+    pub fn schedule(&self) -> &[Action]
+        ensures { result.now ≡ self.now.schedule }
+    {
+        self.schedule.as_slice()
+    }
+
+    /// How many items and bytes a journal of this workload and its stream have at most.
+    pub fn need(&self) -> Need
+        ensures items { result.items ≡ need_items self.now }
+        ensures bytes { result.bytes ≡ need_bytes self.now }
+        ensures limits { IsWithinLimits self.now }
+        ensures few { result.items < 3400000 }
+        ensures short { result.bytes < 181000000 }
+    {
+        self.need
+    }
+}

@@ -1,0 +1,56 @@
+ghost use Rattle.std.specs.Prelude.{◌≡◌, ◌-◌, ◌^◌, ◌<◌, min, IsTrue};
+ghost use Rattle.std.specs.List.{list_all};
+ghost use Rattle.std.specs.Char.{is_ascii_digit};
+ghost use Rattle.std.specs.Str.Parse.{digits_value};
+ghost use Rattle.sv_workload.specs.Form.{begins_well};
+ghost use Rattle.sv_workload.specs.Reading.{is_number, number_of};
+
+/// Whether no digit stands behind a 0 at the front.
+fn begins_well(word: &[u8]) -> bool
+    ensures { result ≡ begins_well word.now }
+{
+    match word {
+        [] => false,
+        [_] => true,
+        [first, ..] => *first != b'0',
+    }
+}
+
+fn are_digits(word: &[u8]) -> bool
+    ensures { result ≡ list_all is_ascii_digit word.now }
+{
+    word.iter().all(|byte| byte.is_ascii_digit())
+}
+
+/// Whether a word is a number.
+fn is_number(word: &[u8]) -> bool
+    ensures { result ≡ is_number word.now }
+{
+    begins_well(word) && are_digits(word)
+}
+
+/// The digits' value, or the greatest `u64` where that is less.
+fn digits_value(digits: &[u8]) -> u64
+    requires { IsTrue (list_all is_ascii_digit digits.now) }
+    ensures { result ≡ min (digits_value 10 digits.now) (2 ^ 64 - 1) }
+{
+    let mut value = 0u64;
+    for digit in digits {
+        value = value
+            .saturating_mul(10)
+            .saturating_add((*digit - b'0') as u64);
+    }
+    value
+}
+
+/// The number that a word is, if it is one and is no greater than the most.
+pub fn number(word: &[u8], most: u64) -> Option<u64>
+    requires { most < 2 ^ 64 - 1 }
+    ensures { result ≡ number_of most word.now }
+{
+    if !is_number(word) {
+        return None;
+    }
+    let value = digits_value(word);
+    if value <= most { Some(value) } else { None }
+}

@@ -1,0 +1,147 @@
+ghost use Rattle.std.specs.Prelude.{◌≡◌, ◌≤◌, ◌∷◌, ◌++◌, [], length, ◌↔◌, IsTrue, OnOk, OnErr, IfOk};
+ghost use Rattle.sv_prim.specs.Number.{number_spelling};
+ghost use Rattle.sv_packet.specs.AnyEvent.{whole};
+ghost use Rattle.sv_packet.specs.Spelling.{spelling_of};
+ghost use Rattle.sv_workload.specs.Need.{act_bytes, one_if, is_start_act};
+ghost use Rattle.sv_workload.specs.Form.{IsShort, one_writer};
+
+use crate::load::{Act, Need, Step, Workload};
+use std::alloc::Global;
+use std::marker::Model;
+use sv_packet::Event;
+use sv_prim::NoMemory;
+
+/// The steps of a writer that were read so far, and what is counted over them.
+#[derive(Drop)]
+pub struct Script {
+    steps: Vec<Step>,
+    starts: u64,
+    bytes: u64,
+}
+
+impl Model for Script {
+    ghost use Rattle.std.specs.Prelude.{List};
+    ghost use Rattle.sv_workload.specs.declared.load.Step.{Step};
+    ghost use Rattle.sv_workload.specs.Reading.{IsCounted};
+
+    ghost Value = { List Step };
+
+    ghost view = { λ s. s.steps.items };
+
+    ghost invariant = { λ s. IsCounted s.steps.items s.starts s.bytes };
+}
+
+/// How many bytes a number's spelling has.
+fn number_len(n: u32) -> u64
+    ensures { result ≡ length (number_spelling n) }
+{
+    if n < 1 << 7 {
+        return 1;
+    }
+    if n < 1 << 14 {
+        return 2;
+    }
+    if n < 1 << 21 {
+        return 3;
+    }
+    if n < 1 << 28 {
+        return 4;
+    }
+    5
+}
+
+/// How many bytes the spelling of an event has, with the delta 0.
+fn event_len(event: Event) -> u64
+    ensures len { result ≡ length (spelling_of (whole event) 0) }
+    ensures most { result ≤ 7 }
+{
+    match event {
+        Event::Nop => 2,
+        Event::Overflow { count } => 2 + number_len(count),
+        Event::IsrEnter { isr } => 2 + number_len(isr),
+        Event::IsrExit => 2,
+        Event::TaskStart { task } => 2 + number_len(task),
+        Event::TaskStop => 2,
+        Event::TaskReady { task } => 2 + number_len(task),
+        Event::TaskCreate { task } => 2 + number_len(task),
+        Event::TraceStart => 2,
+        Event::TraceStop => 2,
+        Event::SystimeCycles { value } => 2 + number_len(value),
+        Event::MarkStart { id } => 2 + number_len(id),
+        Event::MarkStop { id } => 2 + number_len(id),
+        Event::Idle => 2,
+        Event::ToScheduler => 2,
+        Event::TimerEnter { timer } => 2 + number_len(timer),
+        Event::TimerExit => 2,
+    }
+}
+
+/// How many bytes of a stream a step needs at most.
+fn act_bytes(act: &Act) -> u64
+    ensures bytes { result ≡ act_bytes act.now }
+    ensures most { result ≤ 22 }
+{
+    match act {
+        Act::Event(event) => event_len(*event) + 15,
+        Act::Start => 0,
+        Act::Stop => 17,
+    }
+}
+
+/// 1 for a step that starts the recorder.
+fn start_count(act: &Act) -> u64
+    ensures { result ≡ one_if (is_start_act act.now) }
+{
+    match act {
+        Act::Start => 1,
+        Act::Stop => 0,
+        Act::Event(_) => 0,
+    }
+}
+
+impl Script {
+    pub fn new(alloc: Global) -> Script
+        ensures { result ≡ [] }
+    {
+        Script {
+            steps: Vec::new(alloc),
+            starts: 0,
+            bytes: 0,
+        }
+    }
+
+    /// Whether one more step is within the limits.
+    pub fn has_room(&self, step: &Step) -> bool
+        ensures { IsTrue result ↔ IsShort (self.now ++ step.now ∷ []) }
+    {
+        self.steps.len() < 1048576 && self.starts + start_count(&step.act) <= 256
+    }
+
+    /// Adds a step. An `Err` changes nothing.
+    pub fn push(&mut self, step: Step) -> Result<(), NoMemory>
+        requires room { IsShort (self.old ++ step ∷ []) }
+        requires advance { step.advance ≤ 8589934592 }
+        ensures ok { OnOk result (self.new ≡ self.old ++ step ∷ []) }
+        ensures err { OnErr result (self.new ≡ self.old) }
+    {
+        let starts = self.starts + start_count(&step.act);
+        let bytes = self.bytes + act_bytes(&step.act);
+        if self.steps.push(step).is_err() {
+            return Err(NoMemory);
+        }
+        self.starts = starts;
+        self.bytes = bytes;
+        Ok(())
+    }
+
+    /// The workload of one writer with these steps.
+    pub fn into_workload(self, alloc: Global) -> Result<Workload, NoMemory>
+        ensures { IfOk result (λ load. load ≡ one_writer self) }
+    {
+        let need = Need {
+            items: 3 * self.steps.len() as u64 + 10 * self.starts,
+            bytes: 16 + self.bytes + 651 * self.starts,
+        };
+        Workload::one_writer(alloc, self.steps, need)
+    }
+}

@@ -1,0 +1,156 @@
+-- What a recorder keeps from one section to the next.
+use Rattle.std.proofs.Common.{◌≡◌, ℕ, zero, suc, ◌+◌, ◌*◌, ◌^◌, ◌<◌, ◌≤◌, Bool, cond, List, [], ◌∷◌, length, drop, refl, sym, ap, ◌∙◌, subst, arith, vec_capacity}
+use Rattle.std.specs.Prelude.{All, sum_by, count_by, take_while, slice_get, slice_index_or, Some, None}
+use Rattle.std.specs.List.{prefix_len}
+use Rattle.std.proofs.lemmas.List.{length-append, length-reverse, length-take}
+use Rattle.std.proofs.lemmas.List.Elements.{All-head, All-tail}
+use Rattle.std.proofs.lemmas.List.Sums.{sum_by-cons, sum_by-append, count_by-le-length}
+use Rattle.sv_ring.specs.Ring.{Way, Still}
+use Rattle.sv_workload.specs.declared.load.Step.{Step}
+use Rattle.sv_workload.specs.Load.{Load, script_of, step_of}
+use Rattle.sv_workload.specs.Need.{IsWithinLimits, need_items, need_bytes, over_steps, steps_in, act_bytes, is_start_act, one_if}
+use Rattle.sv_recorder.specs.declared.book.Book.{Book}
+use Rattle.sv_recorder.specs.declared.journal.Origin.TheVariants.{Call}
+use Rattle.sv_recorder.specs.declared.journal.Item.{Item}
+use Rattle.sv_recorder.specs.Items.{latest_first, is_call_of, pending_at}
+use Rattle.sv_recorder.specs.Legal.{IsNextStep, ticks_of}
+use Rattle.sv_recorder.specs.Kept.{Keeps}
+use Rattle.sv_recorder.specs.Plain.{IsPlain}
+use Rattle.sv_recorder.specs.Clock.{clock_of}
+use Rattle.sv_recorder.specs.Needs.{step_items, step_bytes, items_for, bytes_for, ticks_for}
+use Rattle.sv_recorder.specs.Book.{Holds, Goes}
+use Rattle.sv_recorder.specs.Section.{IsSection}
+use Rattle.sv_recorder.specs.Recording.{IsRecorder}
+use Rattle.sv_recorder.proofs.Going.{sum_latest, calls_heads, clock-goes}
+use Rattle.sv_recorder.proofs.Sections.{ticks_at}
+
+-- there is one writer
+pub only_writer : (load : Load) (writer : ℕ) → IsPlain load → writer < length load.scripts → writer ≡ 0
+only_writer load writer plain within = omega (arith, ap length plain.scripts, within)
+
+pub count_latest : (p : Item → Bool) (items : List Item) → count_by p (latest_first items) ≡ count_by p items
+count_latest p items = sum_latest (λ (i : Item). cond (p i) 1 0) [] items ∙ (let e : 0 + count_by p items ≡ count_by p items = omega arith in e)
+
+take_while_short : (p : Item → Bool) (items : List Item) → length (take_while p items) ≤ length items
+take_while_short p items = omega (arith, length-take (prefix_len p items) items)
+
+-- no more packets are pending than there are items
+pub pending_few : (items : List Item) → pending_at (latest_first items) ≤ length items
+pending_few items = omega (arith, count_by-le-length {X = Item}, take_while_short, length-reverse items)
+
+-- the step at a place, and those behind it
+drop_next : (steps : List Step) (place : ℕ) (step : Step) → slice_get steps place ≡ Some step → drop place steps ≡ step ∷ drop (suc place) steps
+drop_next [] place step is = absurd cc
+drop_next (s ∷ steps) zero step is = let same : s ≡ step = cc in cc
+drop_next (s ∷ steps) (suc place) step is = drop_next steps place step is
+
+pub drop_at : (steps : List Step) (place : ℕ) (step : Step) → slice_get steps place ≡ Some step → drop place steps ≡ step ∷ drop (place + 1) steps
+drop_at steps place step is = drop_next steps place step is ∙ ap (λ (n : ℕ). step ∷ drop n steps) (let e : suc place ≡ place + 1 = omega arith in e)
+
+pub place_within : (steps : List Step) (place : ℕ) (step : Step) → slice_get steps place ≡ Some step → place < length steps
+place_within [] place step is = absurd cc
+place_within (s ∷ steps) zero step is = omega arith
+place_within (s ∷ steps) (suc place) step is = let rest = place_within steps place step is in omega (arith, rest)
+
+pub needs_at : (f : Step → ℕ) (steps : List Step) (place : ℕ) (step : Step) → slice_get steps place ≡ Some step → sum_by f (drop place steps) ≡ f step + sum_by f (drop (place + 1) steps)
+needs_at f steps place step is = ap (sum_by f) (drop_at steps place step is) ∙ sum_by-cons f step (drop (place + 1) steps)
+
+module _ {U : Type 0} (ring : U → List (List ℕ)) (size limit : U → ℕ) (sent : U → List ℕ) (freed : U → ℕ) (way : U → Way) where
+  abbrev Keeping : Book U → ℕ → Type 0
+  Keeping book place = IsRecorder book.load.now book.items.items (sent book.up) (freed book.up) (size book.up) (limit book.up) book.on book.pending book.last book.moment place (vec_capacity book.items)
+
+  pub next_step : (old : Book U) (place : ℕ) (step : Step) → Keeping old place → step_of old.load.now 0 place ≡ Some step → IsNextStep old.load.now (latest_first old.items.items) (Call 0 place)
+  next_step old place step r is = (r.place_is ∙ sym (count_latest (λ i. is_call_of 0 i.origin) old.items.items), place_within (script_of old.load.now 0) place step is)
+
+  -- a step was taken
+  pub taken : (old new : Book U) (place : ℕ) (step : Step) → Keeping old place → step_of old.load.now 0 place ≡ Some step
+      → (Holds sent freed old [] → IsNextStep old.load.now (latest_first old.items.items) (Call 0 place) → old.moment ≡ clock_of old.load.now old.items.items → Holds sent freed new [])
+      → Goes ring size limit sent freed way (Call 0 place ∷ []) (step_items step) (step_bytes step) (record old { moment = old.moment + step.advance }) new
+      → new.moment ≡ old.moment + step.advance → new.last ≤ new.moment
+      → Keeping new (place + 1)
+  taken old new place step r is kept goes moment later =
+      let load = old.load.now in
+      let script = script_of load 0 in
+      let items = needs_at step_items script place step is in
+      let bytes = needs_at step_bytes script place step is in
+      let ticks = needs_at (λ (s : Step). s.advance) script place step is in
+      let longer : length new.items.items ≡ length old.items.items + length goes.more = ap length goes.added ∙ length-append old.items.items goes.more in
+      let clock = clock-goes ring size limit sent freed way (record old { moment = old.moment + step.advance }) new (Call 0 place ∷ []) (step_items step) (step_bytes step) goes in
+      let tick = ticks_at load 0 place step is in
+      let calls : count_by (λ i. is_call_of 0 i.origin) new.items.items ≡ count_by (λ i. is_call_of 0 i.origin) old.items.items + 1 =
+      ap (count_by (λ i. is_call_of 0 i.origin)) goes.added ∙ sum_by-append (λ (i : Item). cond (is_call_of 0 i.origin) 1 0) old.items.items goes.more
+      ∙ ap (λ (n : ℕ). count_by (λ i. is_call_of 0 i.origin) old.items.items + n) (calls_heads 0 goes.more ∙ ap (count_by (is_call_of 0)) goes.headed) in
+      let whole : IsRecorder load new.items.items (sent new.up) (freed new.up) (size new.up) (limit new.up) new.on new.pending new.last new.moment (place + 1) (vec_capacity new.items) = record {
+        plain = r.plain;
+        limits = r.limits;
+        held = subst (λ (l : Load). Keeps l new.items.items [] (sent new.up) (freed new.up) new.on new.pending new.last) goes.load (kept r.held (next_step old place step r is) r.clock);
+        ring = goes.size_same ∙ r.ring;
+        clock = moment ∙ clock_is old.moment step.advance (ticks_of load (Call 0 place)) (clock_of load old.items.items) r.clock tick ∙ sym clock ∙ ap (λ (l : Load). clock_of l new.items.items) goes.load;
+        later = later;
+        place_is = omega (arith, r.place_is, calls);
+        within = omega (arith, place_within script place step is);
+        room = omega (arith, r.room, items, longer, goes.few, goes.capacity);
+        few = omega (arith, r.few, items, longer, goes.few);
+        bytes = omega (arith, r.bytes, bytes, goes.short, goes.limit_same);
+        ticks = omega (arith, r.ticks, ticks, moment);
+      } in
+      subst (λ (l : Load). IsRecorder l new.items.items (sent new.up) (freed new.up) (size new.up) (limit new.up) new.on new.pending new.last new.moment (place + 1) (vec_capacity new.items)) (sym goes.load) whole
+    where
+      clock_is : (m a t k : ℕ) → m ≡ k → t ≡ a → m + a ≡ k + (0 + t)
+      clock_is m a t k p q = omega (arith, p, q)
+
+  -- what the section added
+  pub section_of : (old new : Book U) (place : ℕ) (step : Step) → Keeping old place
+      → Goes ring size limit sent freed way (Call 0 place ∷ []) (step_items step) (step_bytes step) (record old { moment = old.moment + step.advance }) new
+      → (s : IsSection old.items.items new.items.items 0 None) × (way old.up ≡ Still → (way new.up ≡ Still) × (freed new.up ≡ freed old.up) × All (λ i. i.freed ≡ freed old.up) s.more)
+  section_of old new place step r goes = (
+    record { more = goes.more; longer = goes.added; heads = goes.headed ∙ ap (λ (n : ℕ). Call 0 n ∷ []) r.place_is },
+    λ still. (goes.still_way still, (goes.still still).0, (goes.still still).1),
+  )
+
+-- ONE WRITER'S NEED
+
+need_sum : (steps : List Step) → items_for steps ≡ 3 * sum_by (λ (s : Step). 1) steps + 10 * sum_by (λ (s : Step). one_if (is_start_act s.act)) steps
+need_sum [] = refl
+need_sum (s ∷ steps) = omega (arith, need_sum steps, sum_by-cons step_items s steps, sum_by-cons (λ (t : Step). 1) s steps, sum_by-cons (λ (t : Step). one_if (is_start_act t.act)) s steps)
+
+bytes_sum : (steps : List Step) → bytes_for steps ≡ sum_by (λ (s : Step). act_bytes s.act) steps + 651 * sum_by (λ (s : Step). one_if (is_start_act s.act)) steps
+bytes_sum [] = refl
+bytes_sum (s ∷ steps) = omega (arith, bytes_sum steps, sum_by-cons step_bytes s steps, sum_by-cons (λ (t : Step). act_bytes t.act) s steps, sum_by-cons (λ (t : Step). one_if (is_start_act t.act)) s steps)
+
+ticks_few : (steps : List Step) → All (λ s. s.advance ≤ 8589934592) steps → ticks_for steps ≤ 8589934592 * sum_by (λ (s : Step). 1) steps
+ticks_few [] all = omega arith
+ticks_few (s ∷ steps) all =
+    omega (arith, ticks_few steps (All-tail (λ (t : Step). t.advance ≤ 8589934592) s steps all), All-head (λ (t : Step). t.advance ≤ 8589934592) s steps all, sum_by-cons (λ (t : Step). t.advance) s steps, sum_by-cons (λ (t : Step). 1) s steps)
+
+over_one : (f : Step → ℕ) (load : Load) (script : List Step) → load.scripts ≡ script ∷ [] → over_steps f load ≡ sum_by f script
+over_one f load script one = ap (sum_by (λ (s : List Step). sum_by f s)) one ∙ sum_by-cons (λ (s : List Step). sum_by f s) script [] ∙ (let e : sum_by f script + 0 ≡ sum_by f script = omega arith in e)
+
+script_is : (load : Load) (script : List Step) → load.scripts ≡ script ∷ [] → script_of load 0 ≡ script
+script_is load script one = ap (λ (ss : List (List Step)). slice_index_or ss 0 []) one
+
+pub items_needed : (load : Load) → IsPlain load → items_for (script_of load 0) ≡ need_items load
+items_needed load plain =
+    let is = script_is load plain.script plain.scripts in
+    let steps = over_one (λ (s : Step). 1) load plain.script plain.scripts in
+    let starts = over_one (λ (s : Step). one_if (is_start_act s.act)) load plain.script plain.scripts in
+    let sum = need_sum plain.script in
+    ap items_for is ∙ sum ∙ (rw (plain.lines, plain.tasks, plain.modules, plain.commands, steps, starts) (ten (sum_by (λ (s : Step). 1) plain.script) (sum_by (λ (s : Step). one_if (is_start_act s.act)) plain.script)))
+  where
+    ten : (m n : ℕ) → 3 * m + 10 * n ≡ 3 * m + (n + 0) * 10
+    ten m n = omega arith
+
+pub bytes_needed : (load : Load) → IsPlain load → bytes_for (script_of load 0) ≤ need_bytes load
+bytes_needed load plain =
+    let is = script_is load plain.script plain.scripts in
+    let steps = over_one (λ (s : Step). act_bytes s.act) load plain.script plain.scripts in
+    let starts = over_one (λ (s : Step). one_if (is_start_act s.act)) load plain.script plain.scripts in
+    let sum : bytes_for (script_of load 0) ≡ sum_by (λ (s : Step). act_bytes s.act) plain.script + 651 * sum_by (λ (s : Step). one_if (is_start_act s.act)) plain.script = ap bytes_for is ∙ bytes_sum plain.script in
+    rw (sum, plain.lines, plain.tasks, plain.modules, plain.commands, steps, starts) (omega arith)
+
+pub ticks_needed : (load : Load) → IsPlain load → IsWithinLimits load → ticks_for (script_of load 0) ≤ 2 ^ 60
+ticks_needed load plain limits =
+    let is = script_is load plain.script plain.scripts in
+    let steps : steps_in load ≡ sum_by (λ (s : Step). 1) plain.script = over_one (λ (s : Step). 1) load plain.script plain.scripts in
+    let all : All (λ s. s.advance ≤ 8589934592) plain.script = All-head (λ (s : List Step). All (λ t. t.advance ≤ 8589934592) s) plain.script [] (subst (All (λ (s : List Step). All (λ t. t.advance ≤ 8589934592) s)) plain.scripts limits.advances) in
+    omega (arith, ap ticks_for is, ticks_few plain.script all, steps, limits.steps)

@@ -1,0 +1,161 @@
+-- How a book goes on, and what its clock shows.
+use Rattle.std.proofs.Common.{◌≡◌, ℕ, ◌+◌, ◌≤◌, not, cond, List, [], ◌∷◌, ◌++◌, length, refl, sym, ap, ◌∙◌, subst, arith, append_assoc, vec_capacity}
+use Rattle.std.specs.Prelude.{filter, map, All, sum_by, count_by}
+use Rattle.std.proofs.lemmas.List.{length-append, append-nil, map-append}
+use Rattle.std.proofs.lemmas.List.Elements.{All-nil, All-cons, All-append, filter-append}
+use Rattle.std.proofs.lemmas.List.Sums.{sum_by-cons}
+use Rattle.sv_ring.specs.Ring.{Way}
+use Rattle.sv_workload.specs.Load.{Load}
+use Rattle.sv_recorder.specs.declared.book.Book.{Book}
+use Rattle.sv_recorder.specs.declared.journal.Origin.{Origin}
+use Rattle.sv_recorder.specs.declared.journal.Origin.TheVariants.{Call, Sync, Reply, Overflow, Command}
+use Rattle.sv_recorder.specs.declared.journal.Outcome.{Outcome}
+use Rattle.sv_recorder.specs.declared.journal.Item.{Item}
+use Rattle.sv_recorder.specs.Items.{latest_first, is_call_of, is_overflow}
+use Rattle.sv_recorder.specs.Legal.{is_head, origins_of, ticks_of}
+use Rattle.sv_recorder.specs.Book.{Goes, head_if}
+use Rattle.sv_recorder.specs.Clock.{clock_of}
+use Rattle.sv_recorder.specs.Writes.{made}
+use Rattle.sv_recorder.proofs.Steps.{latest_first-push}
+
+-- the heads among some origins
+abbrev heads_in : List Origin → List Origin
+heads_in os = filter is_head (filter (λ o. not (is_overflow o)) os)
+
+-- only heads have ticks
+head_ticks : (load : Load) (o : Origin) (os : List Origin) → sum_by (ticks_of load) (heads_in (o ∷ os)) ≡ ticks_of load o + sum_by (ticks_of load) (heads_in os)
+head_ticks load (Call writer step) os = sum_by-cons (ticks_of load) (Call writer step) (heads_in os)
+head_ticks load Sync os = omega arith
+head_ticks load (Reply kind index) os = omega arith
+head_ticks load (Overflow count) os = omega arith
+head_ticks load (Command byte param) os = sum_by-cons (ticks_of load) (Command byte param) (heads_in os)
+
+pub ticks_heads : (load : Load) (items : List Item) → sum_by (λ i. ticks_of load i.origin) items ≡ sum_by (ticks_of load) (filter is_head (origins_of items))
+ticks_heads load [] = refl
+ticks_heads load (i ∷ items) =
+    sum_by-cons (λ (j : Item). ticks_of load j.origin) i items ∙ ap (λ (n : ℕ). ticks_of load i.origin + n) (ticks_heads load items)
+    ∙ sym (head_ticks load i.origin (map (λ (j : Item). j.origin) items))
+
+-- only heads are calls
+head_calls : (writer : ℕ) (o : Origin) (os : List Origin) → count_by (is_call_of writer) (heads_in (o ∷ os)) ≡ cond (is_call_of writer o) 1 0 + count_by (is_call_of writer) (heads_in os)
+head_calls writer (Call other step) os = sum_by-cons (λ (p : Origin). cond (is_call_of writer p) 1 0) (Call other step) (heads_in os)
+head_calls writer Sync os = omega arith
+head_calls writer (Reply kind index) os = omega arith
+head_calls writer (Overflow count) os = omega arith
+head_calls writer (Command byte param) os = sum_by-cons (λ (p : Origin). cond (is_call_of writer p) 1 0) (Command byte param) (heads_in os)
+
+pub calls_heads : (writer : ℕ) (items : List Item) → count_by (λ i. is_call_of writer i.origin) items ≡ count_by (is_call_of writer) (filter is_head (origins_of items))
+calls_heads writer [] = refl
+calls_heads writer (i ∷ items) =
+    sum_by-cons (λ (j : Item). cond (is_call_of writer j.origin) 1 0) i items ∙ ap (λ (n : ℕ). cond (is_call_of writer i.origin) 1 0 + n) (calls_heads writer items)
+    ∙ sym (head_calls writer i.origin (map (λ (j : Item). j.origin) items))
+
+-- the order of a sum is nothing to it
+pub sum_latest : (f : Item → ℕ) (items more : List Item) → sum_by f (latest_first (items ++ more)) ≡ sum_by f (latest_first items) + sum_by f more
+sum_latest f items [] = ap (λ (k : List Item). sum_by f (latest_first k)) (append-nil items) ∙ (let e : sum_by f (latest_first items) ≡ sum_by f (latest_first items) + 0 = omega arith in e)
+sum_latest f items (i ∷ more) =
+    let regrouped : items ++ i ∷ more ≡ (items ++ i ∷ []) ++ more = sym (append_assoc items (i ∷ []) more) in
+    let first : sum_by f (latest_first (items ++ i ∷ [])) ≡ f i + sum_by f (latest_first items) = ap (sum_by f) (latest_first-push items i) ∙ sum_by-cons f i (latest_first items) in
+    let others = sum_latest f (items ++ i ∷ []) more in
+    let here = sum_by-cons f i more in
+    ap (λ (k : List Item). sum_by f (latest_first k)) regrouped ∙ omega (arith, first, others, here)
+
+module _ {U : Type 0} (ring : U → List (List ℕ)) (size limit : U → ℕ) (sent : U → List ℕ) (freed : U → ℕ) (way : U → Way) where
+  pub goes-none : (old new : Book U) → new.load.now ≡ old.load.now → new.moment ≡ old.moment → new.up ≡ old.up → new.items ≡ old.items → Goes ring size limit sent freed way [] 0 0 old new
+  goes-none old new load moment up items = record {
+    load = load;
+    moment = moment;
+    ring_same = ap ring up;
+    size_same = ap size up;
+    limit_same = ap limit up;
+    capacity = ap vec_capacity items;
+    more = [];
+    added = ap (λ v. v.items) items ∙ sym (append-nil old.items.items);
+    headed = refl;
+    few = omega arith;
+    short = omega (arith, ap (λ u. length (sent u)) up);
+    still_way = λ is. ap way up ∙ is;
+    still = λ is. (ap freed up, All-nil (λ (i : Item). i.freed ≡ freed old.up));
+  }
+
+  pub goes-then : (old mid new : Book U) (h k : List Origin) (m n a b : ℕ) → Goes ring size limit sent freed way h m a old mid → Goes ring size limit sent freed way k n b mid new
+      → Goes ring size limit sent freed way (h ++ k) (m + n) (a + b) old new
+  goes-then old mid new h k m n a b p q = record {
+    load = q.load ∙ p.load;
+    moment = q.moment ∙ p.moment;
+    ring_same = q.ring_same ∙ p.ring_same;
+    size_same = q.size_same ∙ p.size_same;
+    limit_same = q.limit_same ∙ p.limit_same;
+    capacity = q.capacity ∙ p.capacity;
+    more = p.more ++ q.more;
+    added = q.added ∙ ap (λ (is : List Item). is ++ q.more) p.added ∙ append_assoc old.items.items p.more q.more;
+    headed = heads_append p.more q.more ∙ ap (λ (os : List Origin). os ++ filter is_head (origins_of q.more)) p.headed ∙ ap (λ (os : List Origin). h ++ os) q.headed;
+    few = omega (arith, p.few, q.few, length-append p.more q.more);
+    short = omega (arith, p.short, q.short);
+    still_way = λ is. q.still_way (p.still_way is);
+    still = λ is. let one = p.still is in let two = q.still (p.still_way is) in
+        (two.0 ∙ one.0, All-append (λ (i : Item). i.freed ≡ freed old.up) p.more q.more one.1 (subst (λ (f : ℕ). All (λ i. i.freed ≡ f) q.more) one.0 two.1));
+  } where
+    heads_append : (xs ys : List Item) → filter is_head (origins_of (xs ++ ys)) ≡ filter is_head (origins_of xs) ++ filter is_head (origins_of ys)
+    heads_append xs ys =
+        ap (λ (os : List Origin). heads_in os) (map-append (λ (i : Item). i.origin) xs ys)
+        ∙ ap (filter is_head) (filter-append (λ (o : Origin). not (is_overflow o)) (map (λ (i : Item). i.origin) xs) (map (λ (i : Item). i.origin) ys))
+        ∙ filter-append is_head (origins_of xs) (origins_of ys)
+
+  -- a later state that is told otherwise
+  pub goes-to : (old mid new : Book U) (h : List Origin) (m a : ℕ) → Goes ring size limit sent freed way h m a old mid → new.load.now ≡ mid.load.now → new.moment ≡ mid.moment → new.up ≡ mid.up → new.items ≡ mid.items
+      → Goes ring size limit sent freed way h m a old new
+  goes-to old mid new h m a p load moment up items =
+      let whole = goes-then old mid new h [] m 0 a 0 p (goes-none mid new load moment up items) in
+      let heads : h ++ [] ≡ h = append-nil h in
+      let count : m + 0 ≡ m = omega arith in
+      let bytes : a + 0 ≡ a = omega arith in
+      rw (heads, count, bytes) at whole
+
+  -- the clock goes on with the heads
+  pub clock-goes : (old new : Book U) (h : List Origin) (m a : ℕ) → Goes ring size limit sent freed way h m a old new
+      → clock_of new.load.now new.items.items ≡ clock_of old.load.now old.items.items + sum_by (ticks_of old.load.now) h
+  clock-goes old new h m a p =
+      ap (λ (load : Load). clock_of load new.items.items) p.load ∙ ap (clock_of old.load.now) p.added
+      ∙ sum_latest (λ (i : Item). ticks_of old.load.now i.origin) old.items.items p.more
+      ∙ ap (λ (n : ℕ). clock_of old.load.now old.items.items + n) (ticks_heads old.load.now p.more ∙ ap (sum_by (ticks_of old.load.now)) p.headed)
+
+  -- a note of an item that takes nothing from the ring
+  pub goes-note : (old new : Book U) (origin : Origin) (outcome : Outcome) → new ≡ record old { items = new.items } → vec_capacity new.items ≡ vec_capacity old.items
+      → new.items.items ≡ old.items.items ++ made origin old.moment (freed old.up) outcome ∷ [] → filter is_head (origins_of (made origin old.moment (freed old.up) outcome ∷ [])) ≡ head_if origin
+      → Goes ring size limit sent freed way (head_if origin) 1 0 old new
+  goes-note old new origin outcome changed capacity item headed =
+      let up : new.up ≡ old.up = ap (λ (b : Book U). b.up) changed in
+      record {
+        load = ap (λ (b : Book U). b.load.now) changed;
+        moment = ap (λ (b : Book U). b.moment) changed;
+        ring_same = ap ring up;
+        size_same = ap size up;
+        limit_same = ap limit up;
+        capacity = capacity;
+        more = made origin old.moment (freed old.up) outcome ∷ [];
+        added = item;
+        headed = headed;
+        few = omega arith;
+        short = omega (arith, ap (λ u. length (sent u)) up);
+        still_way = λ is. ap way up ∙ is;
+        still = λ is. (ap freed up, All-cons (λ (i : Item). i.freed ≡ freed old.up) _ [] refl (All-nil (λ (i : Item). i.freed ≡ freed old.up)));
+      }
+
+  -- at most so much is at most more
+  pub goes-less : (old new : Book U) (h : List Origin) (m n a b : ℕ) → Goes ring size limit sent freed way h m a old new → m ≤ n → a ≤ b → Goes ring size limit sent freed way h n b old new
+  goes-less old new h m n a b p few short = record {
+    load = p.load;
+    moment = p.moment;
+    ring_same = p.ring_same;
+    size_same = p.size_same;
+    limit_same = p.limit_same;
+    capacity = p.capacity;
+    more = p.more;
+    added = p.added;
+    headed = p.headed;
+    few = omega (arith, p.few, few);
+    short = omega (arith, p.short, short);
+    still_way = p.still_way;
+    still = p.still;
+  }

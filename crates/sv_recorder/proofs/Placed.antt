@@ -1,0 +1,82 @@
+-- A step by its writer and place, and what a section leaves and shows.
+use Rattle.std.proofs.Common.{◌≡◌, ℕ, zero, suc, ◌+◌, ◌<◌, ◌≤◌, List, [], ◌∷◌, length, sym, ap, ◌∙◌, subst, arith, vec_capacity}
+use Rattle.std.specs.Prelude.{All, count_by, slice_get, slice_index_or, Some, None}
+use Rattle.sv_ring.specs.Ring.{Way, Still}
+use Rattle.sv_workload.specs.declared.load.Step.{Step}
+use Rattle.sv_workload.specs.Load.{script_of}
+use Rattle.sv_recorder.specs.declared.answer.Answer.{Answer}
+use Rattle.sv_recorder.specs.declared.book.Book.{Book}
+use Rattle.sv_recorder.specs.declared.journal.Origin.TheVariants.{Call}
+use Rattle.sv_recorder.specs.Answer.{IsTold}
+use Rattle.sv_recorder.specs.Items.{latest_first, is_call_of}
+use Rattle.sv_recorder.specs.Legal.{IsNextStep}
+use Rattle.sv_recorder.specs.Clock.{clock_of}
+use Rattle.sv_recorder.specs.Needs.{step_items, step_bytes}
+use Rattle.sv_recorder.specs.Book.{Holds, Goes}
+use Rattle.sv_recorder.specs.Section.{IsSection}
+use Rattle.sv_recorder.specs.Recording.{Recording, IsRecorder}
+use Rattle.sv_recorder.proofs.Between.{only_writer, taken, section_of}
+
+got : (steps : List Step) (place : ℕ) (d : Step) → place < length steps → slice_get steps place ≡ Some (slice_index_or steps place d)
+got [] place d within = absurd (omega (arith, within))
+got (s ∷ steps) zero d within = cc
+got (s ∷ steps) (suc place) d within = got steps place d (omega (arith, within))
+
+pub at_place : (steps script : List Step) (place : ℕ) (d : Step) → steps ≡ script → place ≤ length script → (place ≡ length steps → ⊥) → slice_get script place ≡ Some (slice_index_or steps place d)
+at_place steps script place d is within not =
+    ap (λ (s : List Step). slice_get s place) (sym is) ∙ got steps place d (omega (arith, ap length is, within, not))
+
+module _ {U : Type 0} (ring : U → List (List ℕ)) (size limit : U → ℕ) (sent : U → List ℕ) (freed : U → ℕ) (way : U → Way) where
+  abbrev Keeping : Book U → ℕ → Type 0
+  Keeping book place = IsRecorder book.load.now book.items.items (sent book.up) (freed book.up) (size book.up) (limit book.up) book.on book.pending book.last book.moment place (vec_capacity book.items)
+
+  abbrev Shown : Book U → Recording
+  Shown book = record { load = book.load.now; items = book.items.items; ring = ring book.up; size = size book.up; limit = limit book.up; sent = sent book.up; freed = freed book.up; way = way book.up }
+
+  abbrev Gone : Book U → Book U → ℕ → ℕ → Step → Type 0
+  Gone old new writer place step = Goes ring size limit sent freed way (Call writer place ∷ []) (step_items step) (step_bytes step) (record old { moment = old.moment + step.advance }) new
+
+  abbrev Kept : Book U → Book U → ℕ → ℕ → Type 0
+  Kept old new writer place = Holds sent freed old [] → IsNextStep old.load.now (latest_first old.items.items) (Call writer place) → old.moment ≡ clock_of old.load.now old.items.items → Holds sent freed new []
+
+  -- the one writer there is
+  pub writer_zero : (old : Book U) (place writer : ℕ) (view : Recording) → Shown old ≡ view → Keeping old place → writer < length view.load.scripts → writer ≡ 0
+  writer_zero old place writer view is r within = only_writer old.load.now writer r.plain (subst (λ (v : Recording). writer < length v.load.scripts) (sym is) within)
+
+  pub after : (old new : Book U) (writer place : ℕ) (steps : List Step) (d : Step) → Keeping old place → writer ≡ 0 → steps ≡ script_of old.load.now writer → (place ≡ length steps → ⊥)
+      → Kept old new writer place → Gone old new writer place (slice_index_or steps place d)
+      → new.moment ≡ old.moment + (slice_index_or steps place d).advance → new.last ≤ new.moment
+      → Keeping new (place + 1)
+  after old new writer place steps d r only is not kept goes moment later =
+      let step = slice_index_or steps place d in
+      let of = at_place steps (script_of old.load.now 0) place d (subst (λ (w : ℕ). steps ≡ script_of old.load.now w) only is) r.within not in
+      taken ring size limit sent freed way old new place step r of (subst (λ (w : ℕ). Kept old new w place) only kept) (subst (λ (w : ℕ). Gone old new w place step) only goes) moment later
+
+  abbrev SectionOf : Recording → Book U → ℕ → Type 0
+  SectionOf view new writer = (s : IsSection view.items new.items.items writer None) × (view.way ≡ Still → (way new.up ≡ Still) × (freed new.up ≡ view.freed) × All (λ i. i.freed ≡ view.freed) s.more)
+
+  pub section_shown : (old new : Book U) (writer place : ℕ) (step : Step) (view : Recording) → Shown old ≡ view → Keeping old place → writer ≡ 0 → Gone old new writer place step → SectionOf view new writer
+  section_shown old new writer place step view is r only goes =
+      let of = section_of ring size limit sent freed way old new place step r (subst (λ (w : ℕ). Gone old new w place step) only goes) in
+      subst (λ (v : Recording). SectionOf v new writer) is (subst (λ (w : ℕ). SectionOf (Shown old) new w) (sym only) of)
+
+  pub told_shown : (old new : Book U) (writer place : ℕ) (answer : Answer) (view : Recording) → Shown old ≡ view → Keeping old place → writer ≡ 0
+      → IsTold old.load.now new.items.items writer place answer
+      → IsTold view.load new.items.items writer (count_by (λ i. is_call_of writer i.origin) view.items) answer
+  told_shown old new writer place answer view is r only told =
+      let at : place ≡ count_by (λ i. is_call_of writer i.origin) old.items.items = subst (λ (w : ℕ). place ≡ count_by (λ i. is_call_of w i.origin) old.items.items) (sym only) r.place_is in
+      subst (λ (v : Recording). IsTold v.load new.items.items writer (count_by (λ i. is_call_of writer i.origin) v.items) answer) is (subst (λ (n : ℕ). IsTold old.load.now new.items.items writer n answer) at told)
+
+  -- the script is not through
+  pub not_through : (old : Book U) (writer place : ℕ) (steps : List Step) (view : Recording) → Shown old ≡ view → Keeping old place → writer ≡ 0 → steps ≡ script_of old.load.now writer → (place ≡ length steps → ⊥)
+      → count_by (λ i. is_call_of writer i.origin) view.items ≡ length (script_of view.load writer) → ⊥
+  not_through old writer place steps view is r only steps_is not through =
+      let at : place ≡ count_by (λ i. is_call_of writer i.origin) old.items.items = subst (λ (w : ℕ). place ≡ count_by (λ i. is_call_of w i.origin) old.items.items) (sym only) r.place_is in
+      let here : count_by (λ i. is_call_of writer i.origin) old.items.items ≡ length (script_of old.load.now writer) = subst (λ (v : Recording). count_by (λ i. is_call_of writer i.origin) v.items ≡ length (script_of v.load writer)) (sym is) through in
+      not (at ∙ here ∙ sym (ap length steps_is))
+
+  pub is_through : (old : Book U) (writer place : ℕ) (steps : List Step) (view : Recording) → Shown old ≡ view → Keeping old place → writer ≡ 0 → steps ≡ script_of old.load.now writer → place ≡ length steps
+      → count_by (λ i. is_call_of writer i.origin) view.items ≡ length (script_of view.load writer)
+  is_through old writer place steps view is r only steps_is end =
+      let at : place ≡ count_by (λ i. is_call_of writer i.origin) old.items.items = subst (λ (w : ℕ). place ≡ count_by (λ i. is_call_of w i.origin) old.items.items) (sym only) r.place_is in
+      subst (λ (v : Recording). count_by (λ i. is_call_of writer i.origin) v.items ≡ length (script_of v.load writer)) is (sym at ∙ end ∙ ap length steps_is)

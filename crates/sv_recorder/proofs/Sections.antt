@@ -1,0 +1,185 @@
+-- The books of the groups of a step.
+use Rattle.std.proofs.Common.{◌≡◌, ℕ, ◌+◌, ◌*◌, ◌<◌, ◌≤◌, Bool, true, false, not, ◌&&◌, List, [], ◌∷◌, ◌++◌, length, drop, refl, sym, ap, ◌∙◌, subst, arith, replicate, vec_capacity, inr}
+use Rattle.std.specs.Prelude.{filter, map, Some}
+use Rattle.std.proofs.lemmas.List.Elements.{All-nil, All-cons}
+use Rattle.sv_ring.specs.Ring.{Way, Still}
+use Rattle.sv_workload.specs.declared.load.Act.{Act}
+use Rattle.sv_workload.specs.declared.load.Act.TheVariants as acts
+use Rattle.std.specs.Option.{option_map, option_map_or}
+use Rattle.sv_packet.specs.declared.event.Event.{Event}
+use Rattle.sv_workload.specs.declared.load.Step.{Step}
+use Rattle.sv_workload.specs.Load.{Load, act_of, step_of}
+use Rattle.sv_recorder.specs.declared.book.Book.{Book}
+use Rattle.sv_recorder.specs.declared.journal.Kind.{Kind}
+use Rattle.sv_recorder.specs.declared.journal.Kind.TheVariants as kinds
+use Rattle.sv_recorder.specs.declared.journal.Origin.{Origin}
+use Rattle.sv_recorder.specs.declared.journal.Origin.TheVariants.{Call, Sync, Reply, Overflow, Command}
+use Rattle.sv_recorder.specs.declared.journal.Outcome.{Outcome}
+use Rattle.sv_recorder.specs.declared.journal.Outcome.TheVariants.{Handled}
+use Rattle.sv_recorder.specs.declared.journal.Item.{Item}
+use Rattle.sv_recorder.specs.Items.{latest_first, is_stop_reply}
+use Rattle.sv_recorder.specs.Legal.{is_head, origins_of, IsNextStep, ticks_of, is_control}
+use Rattle.sv_recorder.specs.Kept.{Keeps}
+use Rattle.sv_recorder.specs.Plain.{IsPlain}
+use Rattle.sv_recorder.specs.Clock.{clock_of, is_start_kind, reply_of}
+use Rattle.sv_recorder.specs.Replies.{AreReplied}
+use Rattle.sv_recorder.specs.Writes.{Writes, made, outcome_if, IsPacketHere}
+use Rattle.sv_recorder.specs.Book.{Holds, HoldsAs, Goes, head_if}
+use Rattle.sv_recorder.proofs.Entries.{stored_length, same_load, same_moment}
+use Rattle.sv_recorder.proofs.Going.{goes-then, clock-goes}
+use Rattle.sv_recorder.proofs.Answering.{handled, synced, reply_here, no_stop, start_owes, stop_owes, event_owes}
+
+pub headed_one : (origin : Origin) (moment freed : ℕ) (outcome : Outcome) → filter is_head (origins_of (made origin moment freed outcome ∷ [])) ≡ head_if origin
+headed_one (Call writer step) moment freed outcome = refl
+headed_one Sync moment freed outcome = refl
+headed_one (Reply kind index) moment freed outcome = refl
+headed_one (Overflow count) moment freed outcome = refl
+headed_one (Command byte param) moment freed outcome = refl
+
+module _ {U : Type 0} (ring : U → List (List ℕ)) (size limit : U → ℕ) (sent : U → List ℕ) (freed : U → ℕ) (way : U → Way) where
+  pub goes-write : (old new : Book U) (origin : Origin) (block : List ℕ) (stored : Bool)
+      → new ≡ record old { items = new.items; up = new.up }
+      → (ring new.up ≡ ring old.up) × (size new.up ≡ size old.up) × (limit new.up ≡ limit old.up) → vec_capacity new.items ≡ vec_capacity old.items
+      → (way old.up ≡ Still → (way new.up ≡ Still) × (freed new.up ≡ freed old.up))
+      → Writes (size old.up) old.items.items new.items.items (sent old.up) (sent new.up) (freed old.up) (freed new.up) origin old.moment block stored
+      → Goes ring size limit sent freed way (head_if origin) 1 (length block) old new
+  goes-write old new origin block stored written same capacity still w = record {
+    load = same_load old new written;
+    moment = same_moment old new written;
+    ring_same = same.0;
+    size_same = same.1;
+    limit_same = same.2;
+    capacity = capacity;
+    more = made origin old.moment (freed new.up) (outcome_if stored) ∷ [];
+    added = w.item;
+    headed = headed_one origin old.moment (freed new.up) (outcome_if stored);
+    few = omega arith;
+    short = stored_length (sent old.up) (sent new.up) block stored w.grown;
+    still_way = λ is. (still is).0;
+    still = λ is. ((still is).1, All-cons (λ (i : Item). i.freed ≡ freed old.up) (made origin old.moment (freed new.up) (outcome_if stored)) [] (still is).1 (All-nil (λ (i : Item). i.freed ≡ freed old.up)));
+  }
+
+  pub sync-holds : (old new : Book U) (stored : Bool)
+      → new ≡ record old { items = new.items; up = new.up } → size old.up ≡ old.load.now.ring → old.on ≡ true
+      → Writes (size old.up) old.items.items new.items.items (sent old.up) (sent new.up) (freed old.up) (freed new.up) Sync old.moment (replicate 10 0) stored
+      → (rest : List Origin) → Holds sent freed old (Sync ∷ rest) → old.moment ≡ clock_of old.load.now old.items.items → Holds sent freed new rest
+  sync-holds old new stored written fits on writes rest k clock =
+      let w : Writes old.load.now.ring old.items.items new.items.items (sent old.up) (sent new.up) (freed old.up) (freed new.up) Sync old.moment (replicate 10 0) stored =
+      subst (λ (n : ℕ). Writes n old.items.items new.items.items (sent old.up) (sent new.up) (freed old.up) (freed new.up) Sync old.moment (replicate 10 0) stored) fits writes in
+      let k2 : Keeps old.load.now old.items.items (Sync ∷ rest) (sent old.up) (freed old.up) true old.pending old.last =
+      subst (λ (b : Bool). Keeps old.load.now old.items.items (Sync ∷ rest) (sent old.up) (freed old.up) b old.pending old.last) on k in
+      let kept = synced old.load.now old.items.items new.items.items rest (sent old.up) (sent new.up) (freed old.up) (freed new.up) old.pending old.last old.moment stored k2 clock w in
+      let load = same_load old new written in
+      let new_on : new.on ≡ true = ap (λ (b : Book U). b.on) written ∙ on in
+      let pending : new.pending ≡ old.pending = ap (λ (b : Book U). b.pending) written in
+      let last : new.last ≡ old.last = ap (λ (b : Book U). b.last) written in
+      rw (load, new_on, pending, last) kept
+
+  -- one more reply
+  pub replied-more : (kinds : List Kind) (done : ℕ) (kind : Kind) (old mid new : Book U)
+      → AreReplied ring size limit sent freed way kinds done old mid → done < length kinds → drop done kinds ≡ kind ∷ drop (done + 1) kinds → is_start_kind kind ≡ true
+      → ((owed rest : List Origin) → Holds sent freed mid owed → IsPacketHere mid.load.now mid.items.items owed (Reply kind 0) mid.moment rest → HoldsAs sent freed (mid.on && not (is_stop_reply (Reply kind 0))) new rest)
+      → Goes ring size limit sent freed way [] 2 40 mid new → new.on ≡ mid.on → new.last ≤ new.moment → new.pending ≤ mid.pending + 1
+      → AreReplied ring size limit sent freed way kinds (done + 1) old new
+  replied-more kinds done kind old mid new before within next start kept goes on later pending = record {
+    kept = λ rest k clock.
+        let so_far : Holds sent freed mid (map reply_of (kind ∷ drop (done + 1) kinds) ++ rest) = subst (λ (ks : List Kind). Holds sent freed mid (map reply_of ks ++ rest)) next (before.kept rest k clock) in
+        let clocked : mid.moment ≡ clock_of mid.load.now mid.items.items =
+        before.goes.moment ∙ clock ∙ sym (clock-goes ring size limit sent freed way old mid [] (2 * done) (40 * done) before.goes ∙ (let e : clock_of old.load.now old.items.items + 0 ≡ clock_of old.load.now old.items.items = omega arith in e)) in
+        let here = reply_here mid.load.now mid.items.items kind mid.moment (map reply_of (drop (done + 1) kinds) ++ rest) clocked in
+        let told = kept (reply_of kind ∷ (map reply_of (drop (done + 1) kinds) ++ rest)) (map reply_of (drop (done + 1) kinds) ++ rest) so_far here in
+        let still_on : (mid.on && not (is_stop_reply (Reply kind 0))) ≡ new.on =
+        ap (λ (b : Bool). b && not (is_stop_reply (Reply kind 0))) before.on ∙ ap not (no_stop kind start) ∙ sym (on ∙ before.on) in
+        subst (λ (b : Bool). HoldsAs sent freed b new (map reply_of (drop (done + 1) kinds) ++ rest)) still_on told;
+    goes =
+        let all = goes-then ring size limit sent freed way old mid new [] [] (2 * done) 2 (40 * done) 40 before.goes goes in
+        let two : 2 * done + 2 ≡ 2 * (done + 1) = omega arith in
+        let forty : 40 * done + 40 ≡ 40 * (done + 1) = omega arith in
+        rw (two, forty) at all;
+    on = on ∙ before.on;
+    later = later;
+    pending = omega (arith, pending, before.pending);
+  }
+
+  -- a start
+  pub start-holds : (old noted opened synced_ new : Book U) (writer step : ℕ)
+      → noted ≡ record old { items = noted.items } → opened ≡ record noted { on = true }
+      → noted.items.items ≡ old.items.items ++ made (Call writer step) old.moment (freed old.up) Handled ∷ []
+      → act_of old.load.now writer step ≡ Some acts.Start → IsPlain old.load.now
+      → ((rest : List Origin) → Holds sent freed opened (Sync ∷ rest) → opened.moment ≡ clock_of opened.load.now opened.items.items → Holds sent freed synced_ rest)
+      → Goes ring size limit sent freed way [] 1 10 opened synced_
+      → ((rest : List Origin) → Holds sent freed synced_ (map reply_of (kinds.TraceStart ∷ kinds.Init ∷ kinds.Systime ∷ kinds.ModuleCount ∷ []) ++ rest) → synced_.moment ≡ clock_of synced_.load.now synced_.items.items → Holds sent freed new rest)
+      → Goes ring size limit sent freed way (Call writer step ∷ []) 1 0 old opened
+      → Holds sent freed old [] → IsNextStep old.load.now (latest_first old.items.items) (Call writer step) → old.moment ≡ ticks_of old.load.now (Call writer step) + clock_of old.load.now old.items.items
+      → Holds sent freed new []
+  start-holds old noted opened synced_ new writer step changed on item act plain sync_kept sync_goes replies_kept head_goes k next clock =
+      let owes = start_owes old.load.now writer step plain act in
+      let control : is_control old.load.now (Call writer step) ≡ true = rw owes.1 refl in
+      let kept = handled old.load.now old.items.items (sent old.up) (freed old.up) old.on old.pending old.last writer step old.moment k control next clock in
+      let kept2 : Keeps old.load.now noted.items.items (Sync ∷ (map reply_of (kinds.TraceStart ∷ kinds.Init ∷ kinds.Systime ∷ kinds.ModuleCount ∷ []) ++ [])) (sent old.up) (freed old.up) true old.pending old.last =
+      subst (λ (is : List Item). Keeps old.load.now is (Sync ∷ (map reply_of (kinds.TraceStart ∷ kinds.Init ∷ kinds.Systime ∷ kinds.ModuleCount ∷ []) ++ [])) (sent old.up) (freed old.up) true old.pending old.last) (sym item)
+      (rw (owes.0, owes.1) at kept) in
+      let held : Holds sent freed opened (Sync ∷ (map reply_of (kinds.TraceStart ∷ kinds.Init ∷ kinds.Systime ∷ kinds.ModuleCount ∷ []) ++ [])) =
+      subst (λ (b : Book U). Holds sent freed b (Sync ∷ (map reply_of (kinds.TraceStart ∷ kinds.Init ∷ kinds.Systime ∷ kinds.ModuleCount ∷ []) ++ []))) (sym on)
+      (rw (ap (λ (b : Book U). b.load.now) changed, ap (λ (b : Book U). b.up) changed, ap (λ (b : Book U). b.pending) changed, ap (λ (b : Book U). b.last) changed) kept2) in
+      let clock1 : opened.moment ≡ clock_of opened.load.now opened.items.items =
+      head_goes.moment ∙ clock ∙ sym (clock-goes ring size limit sent freed way old opened (Call writer step ∷ []) 1 0 head_goes ∙ one_head (clock_of old.load.now old.items.items) (ticks_of old.load.now (Call writer step))) in
+      let held2 = sync_kept (map reply_of (kinds.TraceStart ∷ kinds.Init ∷ kinds.Systime ∷ kinds.ModuleCount ∷ []) ++ []) held clock1 in
+      let clock2 : synced_.moment ≡ clock_of synced_.load.now synced_.items.items =
+      sync_goes.moment ∙ clock1 ∙ sym (clock-goes ring size limit sent freed way opened synced_ [] 1 10 sync_goes ∙ (let e : clock_of opened.load.now opened.items.items + 0 ≡ clock_of opened.load.now opened.items.items = omega arith in e)) in
+      replies_kept [] held2 clock2
+    where
+      one_head : (n m : ℕ) → n + (0 + m) ≡ m + n
+      one_head n m = omega arith
+
+  -- a stop
+  pub stop-holds : (old noted packed new : Book U) (writer step : ℕ)
+      → noted ≡ record old { items = noted.items } → new ≡ record packed { on = false }
+      → noted.items.items ≡ old.items.items ++ made (Call writer step) old.moment (freed old.up) Handled ∷ []
+      → act_of old.load.now writer step ≡ Some acts.Stop
+      → ((owed rest : List Origin) → Holds sent freed noted owed → IsPacketHere noted.load.now noted.items.items owed (Reply kinds.TraceStop 0) noted.moment rest → HoldsAs sent freed (noted.on && not (is_stop_reply (Reply kinds.TraceStop 0))) packed rest)
+      → Goes ring size limit sent freed way (Call writer step ∷ []) 1 0 old noted
+      → Holds sent freed old [] → IsNextStep old.load.now (latest_first old.items.items) (Call writer step) → old.moment ≡ ticks_of old.load.now (Call writer step) + clock_of old.load.now old.items.items
+      → Holds sent freed new []
+  stop-holds old noted packed new writer step changed off item act packet_kept head_goes k next clock =
+      let owes = stop_owes old.load.now writer step act in
+      let control : is_control old.load.now (Call writer step) ≡ true = rw (owes.1, owes.2) refl in
+      let kept = handled old.load.now old.items.items (sent old.up) (freed old.up) old.on old.pending old.last writer step old.moment k control next clock in
+      let kept2 : Keeps old.load.now noted.items.items (reply_of kinds.TraceStop ∷ []) (sent old.up) (freed old.up) old.on old.pending old.last =
+      subst (λ (is : List Item). Keeps old.load.now is (reply_of kinds.TraceStop ∷ []) (sent old.up) (freed old.up) old.on old.pending old.last) (sym item)
+      (rw (owes.0, owes.1) at kept) in
+      let held : Holds sent freed noted (reply_of kinds.TraceStop ∷ []) =
+      rw (ap (λ (b : Book U). b.load.now) changed, ap (λ (b : Book U). b.up) changed, ap (λ (b : Book U). b.on) changed, ap (λ (b : Book U). b.pending) changed, ap (λ (b : Book U). b.last) changed) kept2 in
+      let clock1 : noted.moment ≡ clock_of noted.load.now noted.items.items =
+      head_goes.moment ∙ clock ∙ sym (clock-goes ring size limit sent freed way old noted (Call writer step ∷ []) 1 0 head_goes ∙ one_head (clock_of old.load.now old.items.items) (ticks_of old.load.now (Call writer step))) in
+      let told = packet_kept (reply_of kinds.TraceStop ∷ []) [] held (reply_here noted.load.now noted.items.items kinds.TraceStop noted.moment [] clock1) in
+      subst (λ (b : Book U). Holds sent freed b []) (sym off) (subst (λ (b : Bool). HoldsAs sent freed b packed []) (none noted.on) told)
+    where
+      one_head : (n m : ℕ) → n + (0 + m) ≡ m + n
+      one_head n m = omega arith
+
+      none : (b : Bool) → (b && false) ≡ false
+      none true = refl
+      none false = refl
+
+  -- a step that records an event
+  pub event-holds : (old new : Book U) (writer step : ℕ) (event : Event) → act_of old.load.now writer step ≡ Some (acts.Event event)
+      → ((owed rest : List Origin) → Holds sent freed old owed → IsPacketHere old.load.now old.items.items owed (Call writer step) old.moment rest → HoldsAs sent freed (old.on && not (is_stop_reply (Call writer step))) new rest)
+      → new.on ≡ old.on
+      → Holds sent freed old [] → IsNextStep old.load.now (latest_first old.items.items) (Call writer step) → old.moment ≡ ticks_of old.load.now (Call writer step) + clock_of old.load.now old.items.items
+      → Holds sent freed new []
+  event-holds old new writer step event act packet_kept on k next clock =
+      let owes = event_owes old.load.now writer step (acts.Event event) act refl refl in
+      let told = packet_kept [] [] k (record { telling = refl; control = owes.1; due = inr (refl, refl, sym owes.0); step = next; ticks = clock }) in
+      subst (λ (b : Bool). HoldsAs sent freed b new []) (always old.on ∙ sym on) told
+    where
+      always : (b : Bool) → (b && true) ≡ b
+      always true = refl
+      always false = refl
+
+-- a step's ticks stand in its call
+pub ticks_at : (load : Load) (writer place : ℕ) (step : Step) → step_of load writer place ≡ Some step → ticks_of load (Call writer place) ≡ step.advance
+ticks_at load writer place step is = ap (λ s. option_map_or (λ (t : Step). t.advance) s 0) is
+
+pub act_at : (load : Load) (writer place : ℕ) (step : Step) (act : Act) → step_of load writer place ≡ Some step → step.act ≡ act → act_of load writer place ≡ Some act
+act_at load writer place step act is same = ap (option_map (λ (t : Step). t.act)) is ∙ ap Some same

@@ -1,0 +1,9 @@
+use Rattle.std.proofs.Common.{◌∙◌}
+use Rattle.sv_recorder.proofs.Entries.{plain-holds}
+use Rattle.sv_recorder.proofs.book.Book.write_plain.Goals as goal
+
+pub returns-clause-kept : goal.returns-clause-kept
+returns-clause-kept g c =
+    let u = g.U.UpWriter in
+    plain-holds u.ring u.size u.limit u.sent u.freed u.way c.args.self.now c.write-stored.new.self c.settle.new.self c.args.origin c.deref.result.now c.write-stored.result
+    c.write-stored.ensures.rest c.settle.ensures c.requires.ring c.requires.on c.requires.none c.write-stored.ensures.writes (c.deref.ensures.0 ∙ c.form-block.ensures.block)

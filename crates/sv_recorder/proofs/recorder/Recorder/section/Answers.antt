@@ -1,0 +1,33 @@
+use Rattle.std.proofs.Common.{◌≡◌, arith, true, false}
+use Rattle.sv_packet.specs.declared.event.Event.TheVariants.{Nop}
+use Rattle.sv_workload.specs.declared.load.Act.TheVariants.{Event}
+use Rattle.sv_recorder.proofs.Between.{pending_few}
+use Rattle.sv_recorder.proofs.Placed as placed
+use Rattle.sv_recorder.proofs.recorder.Recorder.section.Goals as goal
+
+pub take-answer-requires-clause-few : goal.take-answer-requires-clause-few
+take-answer-requires-clause-few g c = omega (arith, c.self.invariant.held.pending_is, pending_few c.self.inside.book.items.items, c.self.invariant.few)
+
+pub returns-clause-section : goal.returns-clause-section
+returns-clause-section g c =
+    let old = c.self.inside.book in
+    let zero = placed.writer_zero g.U.UpWriter.ring g.U.UpWriter.size g.U.UpWriter.limit g.U.UpWriter.sent g.U.UpWriter.freed g.U.UpWriter.way old c.self.inside.place c.args.writer c.args.self.now c.self.view_is c.self.invariant c.requires.writer in
+    placed.section_shown g.U.UpWriter.ring g.U.UpWriter.size g.U.UpWriter.limit g.U.UpWriter.sent g.U.UpWriter.freed g.U.UpWriter.way old c.take-answer.new.self c.args.writer c.self.inside.place _ c.args.self.now c.self.view_is c.self.invariant zero c.take-answer.ensures.goes
+
+pub returns-clause-told : goal.returns-clause-told
+returns-clause-told g c =
+    let old = c.self.inside.book in
+    let zero = placed.writer_zero g.U.UpWriter.ring g.U.UpWriter.size g.U.UpWriter.limit g.U.UpWriter.sent g.U.UpWriter.freed g.U.UpWriter.way old c.self.inside.place c.args.writer c.args.self.now c.self.view_is c.self.invariant c.requires.writer in
+    placed.told_shown g.U.UpWriter.ring g.U.UpWriter.size g.U.UpWriter.limit g.U.UpWriter.sent g.U.UpWriter.freed g.U.UpWriter.way old c.take-answer.new.self c.args.writer c.self.inside.place c.take-answer.result c.args.self.now c.self.view_is c.self.invariant zero c.take-answer.ensures.told
+
+pub returns-clause-through : goal.returns-clause-through
+returns-clause-through g c =
+    let old = c.self.inside.book in
+    let zero = placed.writer_zero g.U.UpWriter.ring g.U.UpWriter.size g.U.UpWriter.limit g.U.UpWriter.sent g.U.UpWriter.freed g.U.UpWriter.way old c.self.inside.place c.args.writer c.args.self.now c.self.view_is c.self.invariant c.requires.writer in
+    (λ (no : true ≡ false). absurd cc, λ through. absurd (placed.not_through g.U.UpWriter.ring g.U.UpWriter.size g.U.UpWriter.limit g.U.UpWriter.sent g.U.UpWriter.freed g.U.UpWriter.way old c.args.writer c.self.inside.place c.steps-steps.result.now c.args.self.now c.self.view_is c.self.invariant zero c.steps-steps.ensures c.if-place-steps.false through))
+
+pub invariant_of-self : goal.invariant_of-self
+invariant_of-self g c =
+    let old = c.self.inside.book in
+    let zero = placed.writer_zero g.U.UpWriter.ring g.U.UpWriter.size g.U.UpWriter.limit g.U.UpWriter.sent g.U.UpWriter.freed g.U.UpWriter.way old c.self.inside.place c.args.writer c.args.self.now c.self.view_is c.self.invariant c.requires.writer in
+    placed.after g.U.UpWriter.ring g.U.UpWriter.size g.U.UpWriter.limit g.U.UpWriter.sent g.U.UpWriter.freed g.U.UpWriter.way old c.take-answer.new.self c.args.writer c.self.inside.place c.steps-steps.result.now (record { advance = 0; act = Event Nop }) c.self.invariant zero c.steps-steps.ensures c.if-place-steps.false c.take-answer.ensures.kept c.take-answer.ensures.goes c.take-answer.ensures.moment c.take-answer.ensures.later

@@ -1,0 +1,13 @@
+-- Workloads that a recorder takes so far: one writer, and nothing to describe or to ask.
+use Rattle.std.specs.Prelude.{◌≡◌, false, List, [], ◌∷◌}
+use Rattle.sv_workload.specs.declared.load.Step.{Step}
+use Rattle.sv_workload.specs.Load.{Load}
+
+pub record IsPlain (load : Load) : Type 0 where
+  pub timed : load.timed ≡ false
+  pub lines : load.lines ≡ []
+  pub tasks : load.tasks ≡ []
+  pub modules : load.modules ≡ []
+  pub commands : load.commands ≡ []
+  pub script : List Step
+  pub scripts : load.scripts ≡ script ∷ []

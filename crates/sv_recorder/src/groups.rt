@@ -1,0 +1,176 @@
+//! The groups of items that a step gives: an event, a start or a stop with its answers.
+ghost use Rattle.std.specs.Prelude.{◌≡◌, ℕ, ◌+◌, ◌*◌, ◌<◌, ◌≤◌, ◌^◌, List, [], ◌∷◌, ◌++◌, true, Some, map, length, vec_capacity};
+ghost use Rattle.std.specs.List.{list_all};
+ghost use Rattle.sv_packet.specs.declared.event.Event.{Event};
+ghost use Rattle.sv_workload.specs.Load.{act_of, step_of};
+ghost use Rattle.sv_recorder.specs.declared.journal.Item.{Item};
+ghost use Rattle.sv_recorder.specs.Formed.{packet_bytes};
+ghost use Rattle.sv_recorder.specs.Needs.{step_items, step_bytes};
+ghost use Rattle.sv_recorder.specs.Clock.{clock_of, is_start_kind, reply_of};
+ghost use Rattle.sv_recorder.specs.Items.{latest_first};
+ghost use Rattle.sv_recorder.specs.Legal.{IsNextStep, ticks_of};
+ghost use Rattle.sv_recorder.specs.Plain.{IsPlain};
+
+use crate::answer::Answer;
+use crate::book::Book;
+use crate::journal::{Kind, Origin, Outcome};
+use sv_ring::UpWriter;
+use sv_workload::{Act, Step};
+
+/// What stands before the packets of a start (RTT, synchronisation).
+const ZEROS: [u8; 10] = [0; 10];
+
+impl<'w, U: UpWriter + Drop> Book<'w, U> {
+    ghost use Rattle.sv_recorder.specs.declared.journal.Origin.{Origin};
+    ghost use Rattle.sv_recorder.specs.declared.journal.Origin.TheVariants.{Call, Sync};
+    ghost use Rattle.sv_workload.specs.declared.load.Act.TheVariants as acts;
+    ghost use Rattle.sv_recorder.specs.Book.{Holds, Goes};
+    ghost use Rattle.sv_recorder.specs.Answer.{answer_of, IsTold};
+
+    /// Ten zero bytes, by which a host finds its place.
+    fn sync(&mut self)
+        requires ring { U.size self.old.up ≡ self.old.load.now.ring }
+        requires room { length self.old.items.items < vec_capacity self.old.items }
+        requires within { length (U.sent self.old.up) + 10 ≤ U.limit self.old.up }
+        requires on { self.old.on ≡ true }
+        ensures kept { (rest : List Origin) → Holds U.sent U.freed self.old (Sync ∷ rest) → self.old.moment ≡ clock_of self.old.load.now self.old.items.items → Holds U.sent U.freed self.new rest }
+        ensures goes { Goes U.ring U.size U.limit U.sent U.freed U.way [] 1 10 self.old self.new }
+        ensures same { (self.new.on ≡ self.old.on) × (self.new.pending ≡ self.old.pending) × (self.new.last ≡ self.old.last) }
+    {
+        let _ = self.write(Origin::Sync, &ZEROS);
+    }
+
+    /// Records replies of these kinds, one after another.
+    fn replies(&mut self, kinds: &[Kind])
+        requires kinds { list_all is_start_kind kinds.now ≡ true }
+        requires plain { IsPlain self.old.load.now }
+        requires ring { U.size self.old.up ≡ self.old.load.now.ring }
+        requires room { length self.old.items.items + 2 * length kinds.now ≤ vec_capacity self.old.items }
+        requires within { length (U.sent self.old.up) + 40 * length kinds.now ≤ U.limit self.old.up }
+        requires later { self.old.last ≤ self.old.moment }
+        requires few { self.old.pending + length kinds.now < 2 ^ 32 }
+        requires on { self.old.on ≡ true }
+        ensures kept { (rest : List Origin) → Holds U.sent U.freed self.old (map reply_of kinds.now ++ rest) → self.old.moment ≡ clock_of self.old.load.now self.old.items.items → Holds U.sent U.freed self.new rest }
+        ensures goes { Goes U.ring U.size U.limit U.sent U.freed U.way [] (2 * length kinds.now) (40 * length kinds.now) self.old self.new }
+        ensures on { self.new.on ≡ true }
+        ensures later { self.new.last ≤ self.new.moment }
+        ensures pending { self.new.pending ≤ self.old.pending + length kinds.now }
+    {
+        for kind in kinds {
+            self.packet(Origin::Reply {
+                kind: *kind,
+                index: 0,
+            });
+        }
+    }
+
+    /// A step that starts the recorder: the step, ten zeros, and what describes the target.
+    pub fn start(&mut self, writer: u32, step: u32)
+        requires act { act_of self.old.load.now writer step ≡ Some acts.Start }
+        requires plain { IsPlain self.old.load.now }
+        requires ring { U.size self.old.up ≡ self.old.load.now.ring }
+        requires room { length self.old.items.items + 10 ≤ vec_capacity self.old.items }
+        requires within { length (U.sent self.old.up) + 170 ≤ U.limit self.old.up }
+        requires later { self.old.last ≤ self.old.moment }
+        requires few { self.old.pending + 4 < 2 ^ 32 }
+        ensures kept { Holds U.sent U.freed self.old [] → IsNextStep self.old.load.now (latest_first self.old.items.items) (Call writer step) → self.old.moment ≡ ticks_of self.old.load.now (Call writer step) + clock_of self.old.load.now self.old.items.items → Holds U.sent U.freed self.new [] }
+        ensures goes { Goes U.ring U.size U.limit U.sent U.freed U.way (Call writer step ∷ []) 10 170 self.old self.new }
+        ensures later { self.new.last ≤ self.new.moment }
+        ensures pending { self.new.pending ≤ self.old.pending + 4 }
+    {
+        self.note(Origin::Call { writer, step }, Outcome::Handled);
+        self.on = true;
+        self.sync();
+        self.replies(&[
+            Kind::TraceStart,
+            Kind::Init,
+            Kind::Systime,
+            Kind::ModuleCount,
+        ]);
+    }
+
+    /// A step that stops the recorder: the step, and the packet that says so.
+    pub fn stop(&mut self, writer: u32, step: u32)
+        requires act { act_of self.old.load.now writer step ≡ Some acts.Stop }
+        requires plain { IsPlain self.old.load.now }
+        requires ring { U.size self.old.up ≡ self.old.load.now.ring }
+        requires room { length self.old.items.items + 3 ≤ vec_capacity self.old.items }
+        requires within { length (U.sent self.old.up) + 17 ≤ U.limit self.old.up }
+        requires later { self.old.last ≤ self.old.moment }
+        requires few { self.old.pending + 1 < 2 ^ 32 }
+        ensures kept { Holds U.sent U.freed self.old [] → IsNextStep self.old.load.now (latest_first self.old.items.items) (Call writer step) → self.old.moment ≡ ticks_of self.old.load.now (Call writer step) + clock_of self.old.load.now self.old.items.items → Holds U.sent U.freed self.new [] }
+        ensures goes { Goes U.ring U.size U.limit U.sent U.freed U.way (Call writer step ∷ []) 3 17 self.old self.new }
+        ensures later { self.new.last ≤ self.new.moment }
+        ensures pending { self.new.pending ≤ self.old.pending + 1 }
+    {
+        self.note(Origin::Call { writer, step }, Outcome::Handled);
+        self.packet(Origin::Reply {
+            kind: Kind::TraceStop,
+            index: 0,
+        });
+        self.on = false;
+    }
+
+    /// What became of the last item, which is a call.
+    fn last_answer(&self) -> Answer
+        requires { 0 < length self.now.items.items }
+        ensures { (before : List Item) (item : Item) → self.now.items.items ≡ before ++ item ∷ [] → result ≡ answer_of item.outcome }
+    {
+        match self.items[self.items.len() - 1].outcome {
+            Outcome::Stored => Answer::Sent,
+            Outcome::Refused => Answer::Refused,
+            Outcome::Ignored => Answer::Ignored,
+            Outcome::Handled => Answer::Ran,
+        }
+    }
+
+    /// A step that records an event.
+    fn event(&mut self, writer: u32, step: u32) -> Answer
+        requires act { (event : Event) × (act_of self.old.load.now writer step ≡ Some (acts.Event event)) }
+        requires plain { IsPlain self.old.load.now }
+        requires ring { U.size self.old.up ≡ self.old.load.now.ring }
+        requires room { length self.old.items.items + 2 ≤ vec_capacity self.old.items }
+        requires within { length (U.sent self.old.up) + packet_bytes self.old.load.now (Call writer step) ≤ U.limit self.old.up }
+        requires later { self.old.last ≤ self.old.moment }
+        requires few { self.old.pending + 1 < 2 ^ 32 }
+        ensures kept { Holds U.sent U.freed self.old [] → IsNextStep self.old.load.now (latest_first self.old.items.items) (Call writer step) → self.old.moment ≡ ticks_of self.old.load.now (Call writer step) + clock_of self.old.load.now self.old.items.items → Holds U.sent U.freed self.new [] }
+        ensures goes { Goes U.ring U.size U.limit U.sent U.freed U.way (Call writer step ∷ []) 2 (packet_bytes self.old.load.now (Call writer step)) self.old self.new }
+        ensures later { self.new.last ≤ self.new.moment }
+        ensures pending { self.new.pending ≤ self.old.pending + 1 }
+        ensures told { (before : List Item) × (item : Item) × (self.new.items.items ≡ before ++ item ∷ []) × (item.origin ≡ Call writer step) × (result ≡ answer_of item.outcome) }
+    {
+        self.packet(Origin::Call { writer, step });
+        self.last_answer()
+    }
+
+    /// The next step of a writer's script: its ticks pass, and then it records what it says.
+    pub fn take(&mut self, writer: u32, place: u32, step: &Step) -> Answer
+        requires step { step_of self.old.load.now writer place ≡ Some step.now }
+        requires plain { IsPlain self.old.load.now }
+        requires ring { U.size self.old.up ≡ self.old.load.now.ring }
+        requires room { length self.old.items.items + step_items step.now ≤ vec_capacity self.old.items }
+        requires within { length (U.sent self.old.up) + step_bytes step.now ≤ U.limit self.old.up }
+        requires later { self.old.last ≤ self.old.moment }
+        requires few { self.old.pending + 4 < 2 ^ 32 }
+        requires ticks { self.old.moment + step.now.advance < 2 ^ 64 }
+        ensures kept { Holds U.sent U.freed self.old [] → IsNextStep self.old.load.now (latest_first self.old.items.items) (Call writer place) → self.old.moment ≡ clock_of self.old.load.now self.old.items.items → Holds U.sent U.freed self.new [] }
+        ensures goes { Goes U.ring U.size U.limit U.sent U.freed U.way (Call writer place ∷ []) (step_items step.now) (step_bytes step.now) (record self.old { moment = self.old.moment + step.now.advance }) self.new }
+        ensures moment { self.new.moment ≡ self.old.moment + step.now.advance }
+        ensures later { self.new.last ≤ self.new.moment }
+        ensures pending { self.new.pending ≤ self.old.pending + 4 }
+        ensures told { IsTold self.old.load.now self.new.items.items writer place result }
+    {
+        self.moment += step.advance;
+        match &step.act {
+            Act::Event(_) => self.event(writer, place),
+            Act::Start => {
+                self.start(writer, place);
+                Answer::Ran
+            }
+            Act::Stop => {
+                self.stop(writer, place);
+                Answer::Ran
+            }
+        }
+    }
+}

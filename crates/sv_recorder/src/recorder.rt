@@ -1,0 +1,132 @@
+ghost use Rattle.std.specs.Prelude.{◌≡◌, ℕ, ◌+◌, ◌-◌, ◌<◌, ◌≤◌, ◌↔◌, [], ◌++◌, None, IsNone, IsSome, IfSome, IfNone, IfOk, All, count_by, length, min, take, drop};
+ghost use Rattle.sv_ring.specs.Ring.{Still};
+ghost use Rattle.sv_workload.specs.Load.{script_of};
+ghost use Rattle.sv_workload.specs.Need.{need_bytes};
+ghost use Rattle.sv_recorder.specs.Answer.{IsTold};
+ghost use Rattle.sv_recorder.specs.Items.{is_call_of};
+ghost use Rattle.sv_recorder.specs.Legal.{IsLegal};
+ghost use Rattle.sv_recorder.specs.Plain.{IsPlain};
+ghost use Rattle.sv_recorder.specs.Section.{IsSection};
+ghost use Rattle.sv_recorder.specs.Stream.{stream_of};
+
+use crate::answer::Answer;
+use crate::book::Book;
+use crate::journal::Journal;
+use std::alloc::Global;
+use std::marker::Model;
+use sv_prim::NoMemory;
+use sv_ring::{PlainRing, UpWriter};
+use sv_workload::Workload;
+
+/// The target's side of the protocol: it takes the steps of a workload's scripts, forms their
+/// packets, stores them in a ring, and keeps the history of that as a journal.
+///
+/// Its type keeps that the journal is legal for the workload, and that the bytes sent are the
+/// stream of the journal. It takes no memory but in [`Recorder::new`], and never waits or fails.
+#[derive(Drop)]
+pub struct Recorder<'w, U: UpWriter + Drop> {
+    book: Book<'w, U>,
+    place: u32,
+}
+
+impl<'w, U: UpWriter + Drop> Model for Recorder<'w, U> {
+    ghost use Rattle.sv_recorder.specs.Recording.{Recording, IsRecorder};
+    ghost use Rattle.std.specs.Prelude.{vec_capacity};
+
+    ghost Value = { Recording };
+
+    ghost view = { λ r. record { load = r.book.load.now; items = r.book.items.items; ring = U.ring r.book.up; size = U.size r.book.up; limit = U.limit r.book.up; sent = U.sent r.book.up; freed = U.freed r.book.up; way = U.way r.book.up } };
+
+    ghost invariant = { λ r. IsRecorder r.book.load.now r.book.items.items (U.sent r.book.up) (U.freed r.book.up) (U.size r.book.up) (U.limit r.book.up) r.book.on r.book.pending r.book.last r.book.moment r.place (vec_capacity r.book.items) };
+}
+
+/// What is left of a recorder: its journal, and its end of the ring.
+#[derive(Drop)]
+pub struct Finished<U: UpWriter + Drop> {
+    pub journal: Journal,
+    pub up: U,
+}
+
+impl<'w, U: UpWriter + Drop> Recorder<'w, U> {
+    /// A recorder that has recorded nothing and is off, over a ring that has sent nothing. Room for
+    /// all items of the workload's journal is reserved; after NoMemory the ring is dropped.
+    pub fn new(alloc: Global, load: &'w Workload, up: U) -> Result<Recorder<'w, U>, NoMemory>
+        requires plain { IsPlain load.now }
+        requires ring { U.size up ≡ load.now.ring }
+        requires sent { U.sent up ≡ [] }
+        requires freed { U.freed up ≡ 0 }
+        requires limit { need_bytes load.now ≤ U.limit up }
+        ensures { IfOk result (λ r. r ≡ record { load = load.now; items = []; ring = U.ring up; size = U.size up; limit = U.limit up; sent = []; freed = 0; way = U.way up }) }
+    {
+        let need = load.need();
+        let Ok(items) = Vec::with_capacity(alloc, need.items as usize) else {
+            return Err(NoMemory);
+        };
+        let book = Book {
+            load,
+            up,
+            items,
+            on: false,
+            pending: 0,
+            last: 0,
+            moment: 0,
+        };
+        Ok(Recorder { book, place: 0 })
+    }
+
+    /// What the type keeps: the journal is legal for its workload, the bytes sent are its stream,
+    /// and no more of them are known to be freed.
+    pub fn keeps(&self)
+        ensures legal { IsLegal self.now.load self.now.items }
+        ensures stream { self.now.sent ≡ stream_of self.now.load self.now.items }
+        ensures freed { self.now.freed ≤ length self.now.sent }
+    {
+        let _ = &self.book;
+    }
+
+    /// The next step of this writer's script: its ticks pass, and it records what it says. None
+    /// where the script is through.
+    pub fn section(&mut self, writer: u32) -> Option<Answer>
+        requires writer { writer < length self.old.load.scripts }
+        ensures through { IsNone result ↔ (count_by (λ i. is_call_of writer i.origin) self.old.items ≡ length (script_of self.old.load writer)) }
+        ensures unchanged { IfNone result (self.new ≡ self.old) }
+        ensures same { (self.new.load ≡ self.old.load) × (self.new.ring ≡ self.old.ring) × (self.new.size ≡ self.old.size) × (self.new.limit ≡ self.old.limit) }
+        ensures section { IfSome result (λ _. (s : IsSection self.old.items self.new.items writer None) × (self.old.way ≡ Still → (self.new.way ≡ Still) × (self.new.freed ≡ self.old.freed) × All (λ i. i.freed ≡ self.old.freed) s.more)) }
+        ensures told { IfSome result (IsTold self.old.load self.new.items writer (count_by (λ i. is_call_of writer i.origin) self.old.items)) }
+    {
+        let load = self.book.load;
+        let steps = load.steps(writer);
+        let place = self.place;
+        if place as usize == steps.len() {
+            return None;
+        }
+        let answer = self.book.take(writer, place, &steps[place as usize]);
+        self.place = place + 1;
+        Some(answer)
+    }
+
+    /// The journal, and the end of the ring.
+    pub fn finish(self) -> Finished<U>
+        ensures journal { result.journal ≡ self.entry.items }
+        ensures sent { U.sent result.up ≡ self.entry.sent }
+        ensures ring { U.ring result.up ≡ self.entry.ring }
+    {
+        let book = self.book;
+        Finished {
+            journal: Journal::of(book.items),
+            up: book.up,
+        }
+    }
+}
+
+impl<'w> Recorder<'w, PlainRing> {
+    /// What a host does between two sections: it takes as many bytes as the buffer holds, or all
+    /// that are left where these are fewer, into the front of the buffer. Says how many.
+    pub fn host_read(&mut self, buf: &mut [u8]) -> usize
+        ensures count { result ≡ min (length buf.old) (length self.old.sent - self.old.freed) }
+        ensures freed { self.new ≡ record self.old { freed = self.old.freed + result } }
+        ensures bytes { buf.new ≡ take result (drop self.old.freed self.old.sent) ++ drop result buf.old }
+    {
+        self.book.up.take(buf)
+    }
+}

@@ -1,0 +1,137 @@
+ghost use Rattle.std.specs.Prelude.{◌≡◌, ◌<◌, length, IfOk};
+ghost use Rattle.sv_recorder.specs.Plain.{IsPlain};
+
+use super::*;
+use std::alloc::Global;
+use std::test::*;
+use sv_prim::NoMemory;
+use sv_ring::PlainRing;
+use sv_workload::{WorkFault, Workload, parse};
+
+/// What a start alone sends: ten zeros, then TRACE_START, INIT, SYSTIME_CYCLES and NUMMODULES, all at
+/// tick 0, with a clock and a CPU of 1,000,000 Hz, the RAM base 0x20000000 and a shift of 2.
+const START: [u8; 34] = [
+    0, 0, 0, 0, 0, 0, 0, 0, 0, 0, 10, 0, 24, 12, 192, 132, 61, 192, 132, 61, 128, 128, 128, 128, 2,
+    2, 0, 12, 0, 0, 27, 1, 0, 0,
+];
+
+/// The workload that the text says, which is plain.
+#[tactic(auto, using(crate::proofs::Fresh::plain_of))]
+fn plain(alloc: Global, text: &[u8]) -> Result<Workload, WorkFault>
+    ensures plain { IfOk result (λ load. IsPlain load) }
+    ensures ring { IfOk result (λ load. load.ring ≡ 1024) }
+    ensures writer { IfOk result (λ load. 0 < length load.scripts) }
+{
+    if text.len() >= 1 << 32 {
+        return Err(WorkFault::NoMemory);
+    }
+    parse(alloc, text)
+}
+
+/// Takes all steps, with a read of 20 bytes behind the step of this number, counted from 1. Gives
+/// what became of the steps of the numbers from `from` on.
+fn run(
+    alloc: Global,
+    load: &Workload,
+    read_behind: usize,
+    from: usize,
+    answers: &mut Vec<Answer>,
+) -> Result<Finished<PlainRing>, NoMemory>
+    requires plain { IsPlain load.now }
+    requires ring { load.now.ring ≡ 1024 }
+    requires writer { 0 < length load.now.scripts }
+{
+    let up = PlainRing::new(alloc, 1024, load.need().bytes)?;
+    let mut recorder = Recorder::new(alloc, load, up)?;
+    let mut buf = [0; 20];
+    for count in 1..400 {
+        let Some(answer) = recorder.section(0) else {
+            break;
+        };
+        if count == read_behind {
+            recorder.host_read(&mut buf);
+        }
+        if count >= from && answers.push(answer).is_err() {
+            return Err(NoMemory);
+        }
+    }
+    Ok(recorder.finish())
+}
+
+/// The line `writer`, a start, and so many marks, each a tick behind the step before it.
+fn marks(alloc: Global, count: usize) -> Result<Vec<u8>, Fail> {
+    let mut text = b"writer\n0 start\n".to_vec(alloc)?;
+    for _ in 0..count {
+        text.extend_from_slice(b"1 mark 5\n")?;
+    }
+    Ok(text)
+}
+
+#[test]
+fn streams_without_a_refusal(rt: HostRuntime) -> Result<(), Fail> {
+    let alloc = rt.alloc();
+    for (text, begins, behind, items) in [
+        ("writer\n0 start\n", Some(0), [].as_slice(), 6),
+        (
+            "writer\n5 mark 9\n0 start\n2 mark 9\n3 stop\n1 mark 9",
+            Some(5),
+            [15, 9, 2, 11, 3].as_slice(),
+            11,
+        ),
+        (
+            "writer\n0 start\n4294967295 mark 1\n4294967296 mark 1",
+            Some(0),
+            [15, 1, 255, 255, 255, 255, 15, 15, 1, 0].as_slice(),
+            8,
+        ),
+        ("writer\n1 mark 9\n", None, [].as_slice(), 1),
+    ] {
+        let load = plain(alloc, text.as_bytes())?;
+        let mut answers = Vec::new(alloc);
+        let done = run(alloc, &load, 0, 0, &mut answers)?;
+        let mut want = Vec::new(alloc);
+        if let Some(tick) = begins {
+            let mut start = START;
+            start[11] = tick;
+            start[28] = tick;
+            want.extend_from_slice(&start)?;
+        }
+        want.extend_from_slice(behind)?;
+        assert_eq!(rt; done.up.bytes(), want.as_slice(), "{text}");
+        assert_eq!(rt; done.journal.items().len(), items, "{text}");
+    }
+    Ok(())
+}
+
+#[test]
+fn three_marks_refused_and_counted(rt: HostRuntime) -> Result<(), Fail> {
+    let alloc = rt.alloc();
+    let text = marks(alloc, 333)?;
+    let load = plain(alloc, &text)?;
+    let mut answers = Vec::new(alloc);
+    let done = run(alloc, &load, 333, 330, &mut answers)?;
+    assert_eq!(rt;
+        answers.as_slice(),
+        [
+            Answer::Sent,
+            Answer::Refused,
+            Answer::Refused,
+            Answer::Refused,
+            Answer::Sent,
+        ]
+        .as_slice()
+    );
+
+    // The start and 329 marks take 1,021 of 1,023 bytes. Behind the read comes the count of those
+    // that are lost, 4 ticks behind the last mark that was stored.
+    let mut want = START.to_vec(alloc)?;
+    for _ in 0..329 {
+        want.extend_from_slice(&[15, 5, 1])?;
+    }
+    want.extend_from_slice(&[1, 3, 4, 15, 5, 0])?;
+    assert_eq!(rt; done.up.bytes(), want.as_slice());
+
+    // 334 steps, the 5 items of the start, and an overflow before each of the last three marks.
+    assert_eq!(rt; done.journal.items().len(), 342);
+    Ok(())
+}

@@ -13,7 +13,7 @@ use Rattle.sv_cli.specs.Lines.{event_lines, end_clean}
 use Rattle.sv_cli.specs.Recording.{IsRecording, zeros}
 use Rattle.sv_base.specs.Streams.{AppendsPart}
 use Rattle.sv_cli.specs.declared.status.Status.{Status}
-use Rattle.sv_cli.specs.declared.status.Status.TheVariants.{Done, Usage, ReadFault, WriteFault, TooLong, NoMemory, Unbuilt as UnbuiltStatus}
+use Rattle.sv_cli.specs.declared.status.Status.TheVariants.{Done, Usage, ReadFault, WriteFault, NoSync, TooLong, NoMemory, Unbuilt as UnbuiltStatus}
 use Rattle.sv_cli.specs.Outcome.{IsOutcome, IsEndedBy, Answers, IsAnswer, IsUnread}
 use Rattle.sv_cli.proofs.UnderWay.{nothing}
 
@@ -84,16 +84,17 @@ answer_by : (file : List ℕ) (old new : Option (List ℕ)) (status : Status) �
 answer_by file old new status over = let one = outcome_exists file in record { text = one.0; end = one.1; fixed = one.2; answers = over one.0 one.1 one.2 }
 
 -- the file was not read whole, and nothing was written
-pub unread : (file : List ℕ) (old : Option (List ℕ)) (status : Status) → IsUnread file status → IsAnswer file old old status
+pub unread : (file : List ℕ) (old : Option (List ℕ)) (status : Status) → IsUnread (2 ^ 33) file status → IsAnswer file old old status
 unread file old ReadFault why = answer_by file old old ReadFault (λ text end is. nothing old)
 unread file old NoMemory why = answer_by file old old NoMemory (λ text end is. (0, nothing old))
 unread file old (TooLong limit) why = answer_by file old old (TooLong limit) (λ text end is. (why.0, why.1, nothing old))
 unread file old Done why = absurd why
 unread file old (UnbuiltStatus place) why = absurd why
 unread file old WriteFault why = absurd why
+unread file old NoSync why = absurd why
 unread file old Usage why = absurd why
 
-pub all_unread : (held old : Option (List ℕ)) (status : Status) → IfSome held (λ bytes. IsUnread bytes status) → IfSome held (λ file. IsAnswer file old old status)
+pub all_unread : (held old : Option (List ℕ)) (status : Status) → IfSome held (λ bytes. IsUnread (2 ^ 33) bytes status) → IfSome held (λ file. IsAnswer file old old status)
 all_unread None old status why = tt
 all_unread (Some file) old status why = unread file old status why
 

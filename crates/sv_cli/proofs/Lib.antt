@@ -2,3 +2,12 @@ pub mod Joined
 pub mod UnderWay
 pub mod Outcomes
 pub mod Exists
+pub mod Sections
+pub mod OneWriter
+pub mod Made
+pub mod Alone
+pub mod Stopped
+pub mod NotStopped
+pub mod Narrow
+pub mod Playing
+pub mod Keywords

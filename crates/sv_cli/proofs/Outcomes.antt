@@ -24,7 +24,7 @@ event_lines-append : (ps qs : List Packet) → event_lines (ps ++ qs) ≡ event_
 event_lines-append ps qs = ap (flat_map event_line) (timed-append ps qs) ∙ flat_map-append event_line (timed ps) (timed_behind ps qs)
 
 -- a part of some text is a part of that text and more
-part_more : (old now : Option (List ℕ)) (a b : List ℕ) → AppendsPart old now a → AppendsPart old now (a ++ b)
+pub part_more : (old now : Option (List ℕ)) (a b : List ℕ) → AppendsPart old now a → AppendsPart old now (a ++ b)
 part_more old now a b (count, part) =
     let n = length (take count a) in
     let short : n ≤ length a = omega (arith, length-take count a) in

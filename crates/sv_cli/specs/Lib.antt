@@ -6,3 +6,7 @@ pub mod Outcome
 pub mod Growth
 pub mod Progress
 pub mod ErrorLine
+pub mod Turns
+pub mod Order
+pub mod Simulated
+pub mod Recorded

@@ -6,7 +6,7 @@ use Rattle.sv_packet.specs.declared.event.Packet.{Packet}
 use Rattle.sv_cli.specs.declared.end.End.{End}
 use Rattle.sv_cli.specs.declared.end.End.TheVariants.{Clean, Unbuilt}
 use Rattle.sv_cli.specs.declared.status.Status.{Status}
-use Rattle.sv_cli.specs.declared.status.Status.TheVariants.{Done, Usage, ReadFault, WriteFault, TooLong, NoMemory, Unbuilt as UnbuiltStatus}
+use Rattle.sv_cli.specs.declared.status.Status.TheVariants.{Done, Usage, ReadFault, WriteFault, NoSync, TooLong, NoMemory, Unbuilt as UnbuiltStatus}
 use Rattle.sv_cli.specs.Recording.{IsRecording, zeros}
 use Rattle.sv_cli.specs.Lines.{event_lines, end_clean}
 
@@ -31,6 +31,7 @@ Answers file text end old new WriteFault = (length file ≤ 2 ^ 33) × AppendsPa
 Answers file text end old new NoMemory = AppendsPart old new text
 Answers file text end old new ReadFault = Appends old new []
 Answers file text end old new (TooLong limit) = (limit ≡ 2 ^ 33) × (2 ^ 33 < length file) × Appends old new []
+Answers file text end old new NoSync = ⊥
 Answers file text end old new Usage = ⊥
 
 -- the file fixes a text and an end, and the answer is one over them
@@ -40,25 +41,27 @@ pub record IsAnswer (file : List ℕ) (old new : Option (List ℕ)) (status : St
   pub fixed : IsOutcome file text end
   pub answers : Answers file text end old new status
 
--- why a file was not read whole
-abbrev pub IsUnread : List ℕ → Status → Type 0
-IsUnread file ReadFault = Unit {0}
-IsUnread file NoMemory = Unit {0}
-IsUnread file (TooLong limit) = (limit ≡ 2 ^ 33) × (2 ^ 33 < length file)
-IsUnread file Done = ⊥
-IsUnread file (UnbuiltStatus place) = ⊥
-IsUnread file WriteFault = ⊥
-IsUnread file Usage = ⊥
+-- why a file was not read whole, where no more than `most` bytes of it are taken
+abbrev pub IsUnread : ℕ → List ℕ → Status → Type 0
+IsUnread most file ReadFault = Unit {0}
+IsUnread most file NoMemory = Unit {0}
+IsUnread most file (TooLong limit) = (limit ≡ most) × (most < length file)
+IsUnread most file Done = ⊥
+IsUnread most file (UnbuiltStatus place) = ⊥
+IsUnread most file WriteFault = ⊥
+IsUnread most file NoSync = ⊥
+IsUnread most file Usage = ⊥
 
 -- how the reading of a file may end before its text is written
-abbrev pub IsReadEnd : Status → Type 0
-IsReadEnd ReadFault = Unit {0}
-IsReadEnd NoMemory = Unit {0}
-IsReadEnd (TooLong limit) = limit ≡ 2 ^ 33
-IsReadEnd Done = ⊥
-IsReadEnd (UnbuiltStatus place) = ⊥
-IsReadEnd WriteFault = ⊥
-IsReadEnd Usage = ⊥
+abbrev pub IsReadEnd : ℕ → Status → Type 0
+IsReadEnd most ReadFault = Unit {0}
+IsReadEnd most NoMemory = Unit {0}
+IsReadEnd most (TooLong limit) = limit ≡ most
+IsReadEnd most Done = ⊥
+IsReadEnd most (UnbuiltStatus place) = ⊥
+IsReadEnd most WriteFault = ⊥
+IsReadEnd most NoSync = ⊥
+IsReadEnd most Usage = ⊥
 
 -- how the writing of a file's text may end
 abbrev pub IsWritten : Status → Type 0
@@ -67,5 +70,6 @@ IsWritten (UnbuiltStatus place) = Unit {0}
 IsWritten WriteFault = Unit {0}
 IsWritten NoMemory = Unit {0}
 IsWritten ReadFault = ⊥
+IsWritten NoSync = ⊥
 IsWritten (TooLong limit) = ⊥
 IsWritten Usage = ⊥

@@ -9,3 +9,7 @@ texts words = map (λ word. word.now) words
 -- the words are the command `events` and a file's name
 abbrev pub IsEvents : List (Bor (List ℕ)) → List ℕ → Type 0
 IsEvents words name = texts words ≡ codes "events" ∷ name ∷ []
+
+-- the words are the command `record` and a workload's name
+abbrev pub IsRecord : List (Bor (List ℕ)) → List ℕ → Type 0
+IsRecord words name = texts words ≡ codes "record" ∷ name ∷ []

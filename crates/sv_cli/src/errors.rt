@@ -36,9 +36,10 @@ fn line_of(status: &Status) -> Line
 {
     match status {
         Status::Done => words(""),
-        Status::Usage => words("usage: sysview events F\n"),
+        Status::Usage => words("usage: sysview events F | record W\n"),
         Status::ReadFault => words("read fault\n"),
         Status::WriteFault => words("write fault\n"),
+        Status::NoSync => words("no sync\n"),
         Status::TooLong { limit } => numbered("longer than ", *limit),
         Status::NoMemory => words("no memory\n"),
         Status::Unbuilt { place } => numbered("not built at ", *place),

@@ -7,16 +7,17 @@ ghost use Rattle.sv_packet.specs.Packets.{BeginsWithNone};
 ghost use Rattle.sv_base.specs.Causes.{Rose, HasCause, one_more};
 ghost use Rattle.sv_base.specs.Streams.{AppendsPart};
 ghost use Rattle.sv_cli.specs.Growth.{Moves};
-ghost use Rattle.sv_cli.specs.Outcome.{IsOutcome, IsAnswer, IsUnread, IsReadEnd, IsWritten};
+ghost use Rattle.sv_cli.specs.Outcome.{IsOutcome, IsAnswer, IsWritten};
 ghost use Rattle.sv_cli.specs.Recording.{zeros};
 ghost use Rattle.sv_cli.specs.Progress.{IsUnderWay, IsPartWritten, HasFault};
 
 use crate::end::End;
 use crate::fault::Fault;
 use crate::lines::event_line;
+use crate::reading::read_file;
 use crate::status::Status;
 use std::alloc::Global;
-use sv_base::{Failed, ReadAll, Sink, Source, put_all, read_all};
+use sv_base::{Failed, Sink, Source, put_all};
 use sv_packet::{Packet, TimedEvent, decode};
 use sv_prim::{Got, NoMemory};
 
@@ -145,29 +146,6 @@ fn answer<K: Sink>(alloc: Global, file: &[u8], out: &mut K) -> Status
     }
 }
 
-/// Reads the file of the name whole, or says why it could not.
-fn read_file<S: Source>(alloc: Global, name: &str, src: &mut S) -> Result<Vec<u8>, Status>
-    ensures whole { IfOk result (λ file. IfSome (S.held src.old name.now) (λ bytes. bytes ≡ file.items)) }
-    ensures short { IfOk result (λ file. vec_len file ≤ 2 ^ 33) }
-    ensures unread { IfErr result (λ status.
-        IfSome (S.held src.old name.now) (λ bytes. IsUnread bytes status)) }
-    ensures which { IfErr result (λ status. IsReadEnd status) }
-    ensures begins { S.begins src.new ≡ one_more (S.begins src.old) }
-    ensures sure { S.sure src.old name.now → result ≢ Err Status.ReadFault }
-    ensures fault { result ≡ Err Status.ReadFault → Rose (S.faults src.old) (S.faults src.new) }
-    ensures kept { result ≢ Err Status.ReadFault → S.faults src.new ≡ S.faults src.old }
-{
-    let Ok(()) = src.begin(name) else {
-        return Err(Status::ReadFault);
-    };
-    match read_all(alloc, src, MAX_FILE) {
-        Ok(file) => Ok(file),
-        Err(ReadAll::Failed) => Err(Status::ReadFault),
-        Err(ReadAll::TooLong) => Err(Status::TooLong { limit: MAX_FILE }),
-        Err(ReadAll::NoMemory) => Err(Status::NoMemory),
-    }
-}
-
 /// Writes the events of the file of the name: a line for each event, and the end line.
 pub fn events<S: Source, K: Sink>(alloc: Global, name: &str, src: &mut S, out: &mut K) -> Status
     ensures told { IfSome (S.held src.old name.now)
@@ -185,7 +163,7 @@ pub fn events<S: Source, K: Sink>(alloc: Global, name: &str, src: &mut S, out: &
     ensures write { result ≡ Status.WriteFault → Rose (K.faults out.old) (K.faults out.new) }
     ensures write_kept { result ≢ Status.WriteFault → K.faults out.new ≡ K.faults out.old }
 {
-    match read_file(alloc, name, src) {
+    match read_file(alloc, name, src, MAX_FILE) {
         Ok(file) => answer(alloc, &file, out),
         Err(status) => status,
     }

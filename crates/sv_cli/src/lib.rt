@@ -1,8 +1,9 @@
 //! The commands of the program: their words, what they write, and the status that they end with.
 //!
-//! The contract above this crate is that of [`offline`]: the text that it writes and the status
-//! that it answers are those that the words and the file alone fix, and where they are not, the
-//! status says which device failed.
+//! The contract above this crate is that of [`offline`]: the lines that it writes of a recording are
+//! those that the file alone fixes, the recording that it writes of a workload is the stream of a
+//! legal journal of it in the order of a simulation, and where they are not, the status says which
+//! device failed.
 #![tactic(auto)]
 
 mod commands;
@@ -12,6 +13,8 @@ mod events;
 mod fault;
 mod laws;
 mod lines;
+mod reading;
+mod recording;
 mod status;
 
 pub use commands::offline;

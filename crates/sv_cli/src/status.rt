@@ -9,6 +9,8 @@ pub enum Status {
     ReadFault,
     /// The output took less than the text.
     WriteFault,
+    /// The recording is written, but holds no start, so that nothing in it can be read.
+    NoSync,
     /// The file has more bytes than the limit.
     TooLong { limit: u64 },
     /// Memory was not to be had.
@@ -30,6 +32,7 @@ impl Status {
             Status::Usage => 2,
             Status::ReadFault => 3,
             Status::WriteFault => 4,
+            Status::NoSync => 7,
             Status::TooLong { .. } => 9,
             Status::NoMemory => 10,
             Status::Unbuilt { .. } => 11,

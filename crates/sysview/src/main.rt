@@ -7,6 +7,7 @@ use std::io::ErrorKind;
 use std::process::ExitCode;
 use sv_base::{FileSource, OutSink, Stream};
 use sv_cli::{Status, offline, tell};
+use sv_recorder::Journal;
 
 /// The texts as words.
 fn words(alloc: Global, texts: &[String]) -> Result<Vec<&str>, AllocError> {
@@ -50,7 +51,8 @@ fn run(rt: HostRuntime) -> Status {
     };
     let mut src = FileSource::new(rt);
     let mut out = OutSink::new(rt, Stream::Out);
-    offline(alloc, &words, &mut src, &mut out, &mut err)
+    let mut journal = Journal::new(alloc);
+    offline(alloc, &words, &mut src, &mut out, &mut err, &mut journal)
 }
 
 fn main(rt: HostRuntime) -> ExitCode {

@@ -1,0 +1,25 @@
+use Rattle.std.proofs.Common.{refl}
+use Rattle.sv_cli.proofs.Playing.{between-none, between-more, between-end, fewer_left}
+use Rattle.sv_cli.proofs.recording.play.Goals as goal
+
+pub loop-recorder-init : goal.loop-recorder-init
+loop-recorder-init c =
+    between-none c.args.recorder.now c.requires.items c.requires.still c.keeps.ensures.legal c.keeps.ensures.stream c.keeps.ensures.freed
+
+pub loop-recorder-preserved : goal.loop-recorder-preserved
+loop-recorder-preserved c =
+    let taken = c.take_all.ensures in
+    let section = c.in-Some.ensures.section in
+    let rest = section.1 c.loop-recorder.invariant.still in
+    between-more c.args.recorder.now.load c.loop-recorder.recorder c.section.new.self c.take_all.new.recorder c.loop-recorder.invariant c.section.ensures.same.0 section.0 rest.2 rest.0 taken.taken taken.legal taken.stream
+
+pub loop-recorder-smaller : goal.loop-recorder-smaller
+loop-recorder-smaller c =
+    let taken = c.take_all.ensures in
+    let section = c.in-Some.ensures.section in
+    let rest = section.1 c.loop-recorder.invariant.still in
+    fewer_left c.args.recorder.now.load c.loop-recorder.recorder c.section.new.self c.take_all.new.recorder c.loop-recorder.invariant c.section.ensures.same.0 section.0 rest.2 rest.0 taken.taken taken.legal taken.stream
+
+pub returns-clause-simulated : goal.returns-clause-simulated
+returns-clause-simulated c =
+    between-end c.args.recorder.now.load c.loop-recorder.recorder c.section.new.self c.requires.one.0 c.requires.one.1 c.loop-recorder.invariant c.in_default.ensures.unchanged (c.in_default.ensures.through.0 refl)

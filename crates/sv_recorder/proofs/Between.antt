@@ -154,3 +154,14 @@ ticks_needed load plain limits =
     let steps : steps_in load ≡ sum_by (λ (s : Step). 1) plain.script = over_one (λ (s : Step). 1) load plain.script plain.scripts in
     let all : All (λ s. s.advance ≤ 8589934592) plain.script = All-head (λ (s : List Step). All (λ t. t.advance ≤ 8589934592) s) plain.script [] (subst (All (λ (s : List Step). All (λ t. t.advance ≤ 8589934592) s)) plain.scripts limits.advances) in
     omega (arith, ap ticks_for is, ticks_few plain.script all, steps, limits.steps)
+
+ones : (steps : List Step) → sum_by (λ (s : Step). 1) steps ≡ length steps
+ones [] = refl
+ones (s ∷ steps) = omega (arith, ones steps, sum_by-cons (λ (t : Step). 1) s steps)
+
+-- the script has no more steps than a workload may have
+pub script_short : (load : Load) → IsPlain load → IsWithinLimits load → length (script_of load 0) ≤ 1048576
+script_short load plain limits =
+    let is = ap length (script_is load plain.script plain.scripts) in
+    let steps : steps_in load ≡ sum_by (λ (s : Step). 1) plain.script = over_one (λ (s : Step). 1) load plain.script plain.scripts in
+    omega (arith, is, steps, ones plain.script, limits.steps)

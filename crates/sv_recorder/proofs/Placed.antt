@@ -15,7 +15,7 @@ use Rattle.sv_recorder.specs.Needs.{step_items, step_bytes}
 use Rattle.sv_recorder.specs.Book.{Holds, Goes}
 use Rattle.sv_recorder.specs.Section.{IsSection}
 use Rattle.sv_recorder.specs.Recording.{Recording, IsRecorder}
-use Rattle.sv_recorder.proofs.Between.{only_writer, taken, section_of}
+use Rattle.sv_recorder.proofs.Between.{only_writer, taken, section_of, script_short}
 
 got : (steps : List Step) (place : ℕ) (d : Step) → place < length steps → slice_get steps place ≡ Some (slice_index_or steps place d)
 got [] place d within = absurd (omega (arith, within))
@@ -80,3 +80,8 @@ module _ {U : Type 0} (ring : U → List (List ℕ)) (size limit : U → ℕ) (s
   is_through old writer place steps view is r only steps_is end =
       let at : place ≡ count_by (λ i. is_call_of writer i.origin) old.items.items = subst (λ (w : ℕ). place ≡ count_by (λ i. is_call_of w i.origin) old.items.items) (sym only) r.place_is in
       subst (λ (v : Recording). count_by (λ i. is_call_of writer i.origin) v.items ≡ length (script_of v.load writer)) is (sym at ∙ end ∙ ap length steps_is)
+
+  -- a script's steps can be counted
+  pub script_fits : (old : Book U) (writer place : ℕ) (steps : List Step) → Keeping old place → writer ≡ 0 → steps ≡ script_of old.load.now writer → length steps ≤ 1048576
+  script_fits old writer place steps r only is =
+      omega (arith, ap length (is ∙ ap (λ (w : ℕ). script_of old.load.now w) only), script_short old.load.now r.plain r.limits)

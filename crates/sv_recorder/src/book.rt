@@ -25,11 +25,15 @@ pub struct Book<'w, U: UpWriter + Drop> {
 fn stores<U: UpWriter>(up: &mut U, block: &[u8]) -> bool
     requires some { 0 < length block.now }
     requires within { length (U.sent up.old) + length block.now ≤ U.limit up.old }
-    ensures same { (U.ring up.new ≡ U.ring up.old) × (U.size up.new ≡ U.size up.old) × (U.limit up.new ≡ U.limit up.old) }
-    ensures decided { result ≡ (if nat_lt (room_of (U.size up.old) (U.sent up.old) (U.freed up.new)) (length block.now) then false else true) }
+    ensures same { (U.ring up.new ≡ U.ring up.old) × (U.size up.new ≡ U.size up.old)
+        × (U.limit up.new ≡ U.limit up.old) }
+    ensures decided { result ≡ (if nat_lt (room_of (U.size up.old) (U.sent up.old) (U.freed up.new)) (length
+        block.now) then false else true) }
     ensures grown { U.sent up.new ≡ U.sent up.old ++ (if result then block.now else []) }
-    ensures bounded { (U.freed up.old ≤ U.freed up.new) × (U.freed up.new ≤ length (U.sent up.old)) }
-    ensures still { U.way up.old ≡ Still → (U.way up.new ≡ Still) × (U.freed up.new ≡ U.freed up.old) }
+    ensures bounded { (U.freed up.old ≤ U.freed up.new)
+        × (U.freed up.new ≤ length (U.sent up.old)) }
+    ensures still { U.way up.old ≡ Still → (U.way up.new ≡ Still)
+        × (U.freed up.new ≡ U.freed up.old) }
 {
     match up.write_skip(block) {
         Wrote::Stored => true,
@@ -53,7 +57,8 @@ impl<'w, U: UpWriter + Drop> Book<'w, U> {
     /// One item more, of the moment and with what the ring knows to be freed.
     pub fn note(&mut self, origin: Origin, outcome: Outcome)
         requires room { length self.old.items.items < vec_capacity self.old.items }
-        ensures item { self.new.items.items ≡ self.old.items.items ++ made origin self.old.moment (U.freed self.old.up) outcome ∷ [] }
+        ensures item { self.new.items.items ≡ self.old.items.items ++ made origin self.old.moment (U.freed
+            self.old.up) outcome ∷ [] }
         ensures capacity { vec_capacity self.new.items ≡ vec_capacity self.old.items }
         ensures rest { self.new ≡ record self.old { items = self.new.items } }
     {
@@ -72,11 +77,16 @@ impl<'w, U: UpWriter + Drop> Book<'w, U> {
         requires room { length self.old.items.items < vec_capacity self.old.items }
         requires some { 0 < length block.now }
         requires within { length (U.sent self.old.up) + length block.now ≤ U.limit self.old.up }
-        ensures writes { Writes (U.size self.old.up) self.old.items.items self.new.items.items (U.sent self.old.up) (U.sent self.new.up) (U.freed self.old.up) (U.freed self.new.up) origin self.old.moment block.now result }
+        ensures writes { Writes (U.size self.old.up) self.old.items.items self.new.items.items (U.sent
+            self.old.up) (U.sent self.new.up) (U.freed self.old.up) (U.freed self.new.up)
+            origin self.old.moment block.now result }
         ensures rest { self.new ≡ record self.old { items = self.new.items; up = self.new.up } }
-        ensures same { (U.ring self.new.up ≡ U.ring self.old.up) × (U.size self.new.up ≡ U.size self.old.up) × (U.limit self.new.up ≡ U.limit self.old.up) }
+        ensures same { (U.ring self.new.up ≡ U.ring self.old.up)
+            × (U.size self.new.up ≡ U.size self.old.up)
+            × (U.limit self.new.up ≡ U.limit self.old.up) }
         ensures capacity { vec_capacity self.new.items ≡ vec_capacity self.old.items }
-        ensures still { U.way self.old.up ≡ Still → (U.way self.new.up ≡ Still) × (U.freed self.new.up ≡ U.freed self.old.up) }
+        ensures still { U.way self.old.up ≡ Still → (U.way self.new.up ≡ Still)
+            × (U.freed self.new.up ≡ U.freed self.old.up) }
     {
         let stored = stores(&mut self.up, block);
         self.note(origin, outcome_of(stored));

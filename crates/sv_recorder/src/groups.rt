@@ -33,9 +33,12 @@ impl<'w, U: UpWriter + Drop> Book<'w, U> {
         requires room { length self.old.items.items < vec_capacity self.old.items }
         requires within { length (U.sent self.old.up) + 10 ≤ U.limit self.old.up }
         requires on { self.old.on ≡ true }
-        ensures kept { (rest : List Origin) → Holds U.sent U.freed self.old (Sync ∷ rest) → self.old.moment ≡ clock_of self.old.load.now self.old.items.items → Holds U.sent U.freed self.new rest }
+        ensures kept { (rest : List Origin) → Holds U.sent U.freed self.old (Sync ∷ rest) →
+            self.old.moment ≡ clock_of self.old.load.now self.old.items.items →
+            Holds U.sent U.freed self.new rest }
         ensures goes { Goes U.ring U.size U.limit U.sent U.freed U.way [] 1 10 self.old self.new }
-        ensures same { (self.new.on ≡ self.old.on) × (self.new.pending ≡ self.old.pending) × (self.new.last ≡ self.old.last) }
+        ensures same { (self.new.on ≡ self.old.on) × (self.new.pending ≡ self.old.pending)
+            × (self.new.last ≡ self.old.last) }
     {
         let _ = self.write(Origin::Sync, &ZEROS);
     }
@@ -50,8 +53,12 @@ impl<'w, U: UpWriter + Drop> Book<'w, U> {
         requires later { self.old.last ≤ self.old.moment }
         requires few { self.old.pending + length kinds.now < 2 ^ 32 }
         requires on { self.old.on ≡ true }
-        ensures kept { (rest : List Origin) → Holds U.sent U.freed self.old (map reply_of kinds.now ++ rest) → self.old.moment ≡ clock_of self.old.load.now self.old.items.items → Holds U.sent U.freed self.new rest }
-        ensures goes { Goes U.ring U.size U.limit U.sent U.freed U.way [] (2 * length kinds.now) (40 * length kinds.now) self.old self.new }
+        ensures kept { (rest : List Origin) →
+            Holds U.sent U.freed self.old (map reply_of kinds.now ++ rest) →
+            self.old.moment ≡ clock_of self.old.load.now self.old.items.items →
+            Holds U.sent U.freed self.new rest }
+        ensures goes { Goes U.ring U.size U.limit U.sent U.freed U.way [] (2 * length kinds.now) (40 * length
+            kinds.now) self.old self.new }
         ensures on { self.new.on ≡ true }
         ensures later { self.new.last ≤ self.new.moment }
         ensures pending { self.new.pending ≤ self.old.pending + length kinds.now }
@@ -73,8 +80,12 @@ impl<'w, U: UpWriter + Drop> Book<'w, U> {
         requires within { length (U.sent self.old.up) + 170 ≤ U.limit self.old.up }
         requires later { self.old.last ≤ self.old.moment }
         requires few { self.old.pending + 4 < 2 ^ 32 }
-        ensures kept { Holds U.sent U.freed self.old [] → IsNextStep self.old.load.now (latest_first self.old.items.items) (Call writer step) → self.old.moment ≡ ticks_of self.old.load.now (Call writer step) + clock_of self.old.load.now self.old.items.items → Holds U.sent U.freed self.new [] }
-        ensures goes { Goes U.ring U.size U.limit U.sent U.freed U.way (Call writer step ∷ []) 10 170 self.old self.new }
+        ensures kept { Holds U.sent U.freed self.old [] →
+            IsNextStep self.old.load.now (latest_first self.old.items.items) (Call writer step) →
+            self.old.moment ≡ ticks_of self.old.load.now (Call writer step) + clock_of
+            self.old.load.now self.old.items.items → Holds U.sent U.freed self.new [] }
+        ensures goes { Goes U.ring U.size U.limit U.sent U.freed U.way (Call writer step ∷ []) 10 170 self.old
+            self.new }
         ensures later { self.new.last ≤ self.new.moment }
         ensures pending { self.new.pending ≤ self.old.pending + 4 }
     {
@@ -98,8 +109,12 @@ impl<'w, U: UpWriter + Drop> Book<'w, U> {
         requires within { length (U.sent self.old.up) + 17 ≤ U.limit self.old.up }
         requires later { self.old.last ≤ self.old.moment }
         requires few { self.old.pending + 1 < 2 ^ 32 }
-        ensures kept { Holds U.sent U.freed self.old [] → IsNextStep self.old.load.now (latest_first self.old.items.items) (Call writer step) → self.old.moment ≡ ticks_of self.old.load.now (Call writer step) + clock_of self.old.load.now self.old.items.items → Holds U.sent U.freed self.new [] }
-        ensures goes { Goes U.ring U.size U.limit U.sent U.freed U.way (Call writer step ∷ []) 3 17 self.old self.new }
+        ensures kept { Holds U.sent U.freed self.old [] →
+            IsNextStep self.old.load.now (latest_first self.old.items.items) (Call writer step) →
+            self.old.moment ≡ ticks_of self.old.load.now (Call writer step) + clock_of
+            self.old.load.now self.old.items.items → Holds U.sent U.freed self.new [] }
+        ensures goes { Goes U.ring U.size U.limit U.sent U.freed U.way (Call writer step ∷ []) 3 17 self.old
+            self.new }
         ensures later { self.new.last ≤ self.new.moment }
         ensures pending { self.new.pending ≤ self.old.pending + 1 }
     {
@@ -114,7 +129,8 @@ impl<'w, U: UpWriter + Drop> Book<'w, U> {
     /// What became of the last item, which is a call.
     fn last_answer(&self) -> Answer
         requires { 0 < length self.now.items.items }
-        ensures { (before : List Item) (item : Item) → self.now.items.items ≡ before ++ item ∷ [] → result ≡ answer_of item.outcome }
+        ensures { (before : List Item) (item : Item) →
+            self.now.items.items ≡ before ++ item ∷ [] → result ≡ answer_of item.outcome }
     {
         match self.items[self.items.len() - 1].outcome {
             Outcome::Stored => Answer::Sent,
@@ -126,18 +142,26 @@ impl<'w, U: UpWriter + Drop> Book<'w, U> {
 
     /// A step that records an event.
     fn event(&mut self, writer: u32, step: u32) -> Answer
-        requires act { (event : Event) × (act_of self.old.load.now writer step ≡ Some (acts.Event event)) }
+        requires act { (event : Event)
+            × (act_of self.old.load.now writer step ≡ Some (acts.Event event)) }
         requires plain { IsPlain self.old.load.now }
         requires ring { U.size self.old.up ≡ self.old.load.now.ring }
         requires room { length self.old.items.items + 2 ≤ vec_capacity self.old.items }
-        requires within { length (U.sent self.old.up) + packet_bytes self.old.load.now (Call writer step) ≤ U.limit self.old.up }
+        requires within { length (U.sent self.old.up) + packet_bytes self.old.load.now (Call writer step) ≤
+            U.limit self.old.up }
         requires later { self.old.last ≤ self.old.moment }
         requires few { self.old.pending + 1 < 2 ^ 32 }
-        ensures kept { Holds U.sent U.freed self.old [] → IsNextStep self.old.load.now (latest_first self.old.items.items) (Call writer step) → self.old.moment ≡ ticks_of self.old.load.now (Call writer step) + clock_of self.old.load.now self.old.items.items → Holds U.sent U.freed self.new [] }
-        ensures goes { Goes U.ring U.size U.limit U.sent U.freed U.way (Call writer step ∷ []) 2 (packet_bytes self.old.load.now (Call writer step)) self.old self.new }
+        ensures kept { Holds U.sent U.freed self.old [] →
+            IsNextStep self.old.load.now (latest_first self.old.items.items) (Call writer step) →
+            self.old.moment ≡ ticks_of self.old.load.now (Call writer step) + clock_of
+            self.old.load.now self.old.items.items → Holds U.sent U.freed self.new [] }
+        ensures goes { Goes U.ring U.size U.limit U.sent U.freed U.way (Call writer step ∷ []) 2 (packet_bytes
+            self.old.load.now (Call writer step)) self.old self.new }
         ensures later { self.new.last ≤ self.new.moment }
         ensures pending { self.new.pending ≤ self.old.pending + 1 }
-        ensures told { (before : List Item) × (item : Item) × (self.new.items.items ≡ before ++ item ∷ []) × (item.origin ≡ Call writer step) × (result ≡ answer_of item.outcome) }
+        ensures told { (before : List Item) × (item : Item)
+            × (self.new.items.items ≡ before ++ item ∷ []) × (item.origin ≡ Call writer step)
+            × (result ≡ answer_of item.outcome) }
     {
         self.packet(Origin::Call { writer, step });
         self.last_answer()
@@ -153,8 +177,15 @@ impl<'w, U: UpWriter + Drop> Book<'w, U> {
         requires later { self.old.last ≤ self.old.moment }
         requires few { self.old.pending + 4 < 2 ^ 32 }
         requires ticks { self.old.moment + step.now.advance < 2 ^ 64 }
-        ensures kept { Holds U.sent U.freed self.old [] → IsNextStep self.old.load.now (latest_first self.old.items.items) (Call writer place) → self.old.moment ≡ clock_of self.old.load.now self.old.items.items → Holds U.sent U.freed self.new [] }
-        ensures goes { Goes U.ring U.size U.limit U.sent U.freed U.way (Call writer place ∷ []) (step_items step.now) (step_bytes step.now) (record self.old { moment = self.old.moment + step.now.advance }) self.new }
+        ensures kept { Holds U.sent U.freed self.old [] →
+            IsNextStep self.old.load.now (latest_first self.old.items.items) (Call writer place) →
+            self.old.moment ≡ clock_of self.old.load.now self.old.items.items →
+            Holds U.sent U.freed self.new [] }
+        ensures goes { Goes U.ring U.size U.limit U.sent U.freed U.way (Call writer place ∷ []) (step_items
+            step.now) (step_bytes step.now) (record self.old {
+              moment = self.old.moment +
+                  step.now.advance;
+            }) self.new }
         ensures moment { self.new.moment ≡ self.old.moment + step.now.advance }
         ensures later { self.new.last ≤ self.new.moment }
         ensures pending { self.new.pending ≤ self.old.pending + 4 }

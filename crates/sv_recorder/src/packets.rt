@@ -16,7 +16,11 @@ impl<'w, U: UpWriter + Drop> Book<'w, U> {
 
     /// What a write leaves pending, and as the last moment.
     fn settle(&mut self, stored: bool)
-        ensures { self.new ≡ record self.old { pending = if stored then 0 else 1; last = if stored then self.old.moment else self.old.last } }
+        ensures { self.new ≡ record self.old {
+          pending = if stored then 0 else 1;
+          last = if stored then
+              self.old.moment else self.old.last;
+        } }
     {
         if stored {
             self.pending = 0;
@@ -32,12 +36,16 @@ impl<'w, U: UpWriter + Drop> Book<'w, U> {
         requires plain { IsPlain self.old.load.now }
         requires ring { U.size self.old.up ≡ self.old.load.now.ring }
         requires room { length self.old.items.items < vec_capacity self.old.items }
-        requires within { length (U.sent self.old.up) + packet_bytes self.old.load.now origin ≤ U.limit self.old.up }
+        requires within { length (U.sent self.old.up) + packet_bytes self.old.load.now origin ≤ U.limit
+            self.old.up }
         requires later { self.old.last ≤ self.old.moment }
         requires on { self.old.on ≡ true }
         requires none { self.old.pending ≡ 0 }
-        ensures kept { (owed rest : List Origin) → Holds U.sent U.freed self.old owed → IsPacketHere self.old.load.now self.old.items.items owed origin self.old.moment rest → HoldsAs U.sent U.freed (not (is_stop_reply origin)) self.new rest }
-        ensures goes { Goes U.ring U.size U.limit U.sent U.freed U.way (head_if origin) 2 (packet_bytes self.old.load.now origin) self.old self.new }
+        ensures kept { (owed rest : List Origin) → Holds U.sent U.freed self.old owed →
+            IsPacketHere self.old.load.now self.old.items.items owed origin self.old.moment rest →
+            HoldsAs U.sent U.freed (not (is_stop_reply origin)) self.new rest }
+        ensures goes { Goes U.ring U.size U.limit U.sent U.freed U.way (head_if origin) 2 (packet_bytes
+            self.old.load.now origin) self.old self.new }
         ensures on { self.new.on ≡ true }
         ensures last { IsLast origin self.new.items.items }
         ensures later { self.new.last ≤ self.new.moment }
@@ -55,13 +63,17 @@ impl<'w, U: UpWriter + Drop> Book<'w, U> {
         requires plain { IsPlain self.old.load.now }
         requires ring { U.size self.old.up ≡ self.old.load.now.ring }
         requires room { length self.old.items.items + 2 ≤ vec_capacity self.old.items }
-        requires within { length (U.sent self.old.up) + packet_bytes self.old.load.now origin ≤ U.limit self.old.up }
+        requires within { length (U.sent self.old.up) + packet_bytes self.old.load.now origin ≤ U.limit
+            self.old.up }
         requires later { self.old.last ≤ self.old.moment }
         requires on { self.old.on ≡ true }
         requires some { 0 < self.old.pending }
         requires few { self.old.pending + 1 < 2 ^ 32 }
-        ensures kept { (owed rest : List Origin) → Holds U.sent U.freed self.old owed → IsPacketHere self.old.load.now self.old.items.items owed origin self.old.moment rest → HoldsAs U.sent U.freed (not (is_stop_reply origin)) self.new rest }
-        ensures goes { Goes U.ring U.size U.limit U.sent U.freed U.way (head_if origin) 2 (packet_bytes self.old.load.now origin) self.old self.new }
+        ensures kept { (owed rest : List Origin) → Holds U.sent U.freed self.old owed →
+            IsPacketHere self.old.load.now self.old.items.items owed origin self.old.moment rest →
+            HoldsAs U.sent U.freed (not (is_stop_reply origin)) self.new rest }
+        ensures goes { Goes U.ring U.size U.limit U.sent U.freed U.way (head_if origin) 2 (packet_bytes
+            self.old.load.now origin) self.old self.new }
         ensures on { self.new.on ≡ true }
         ensures last { IsLast origin self.new.items.items }
         ensures later { self.new.last ≤ self.new.moment }
@@ -87,11 +99,15 @@ impl<'w, U: UpWriter + Drop> Book<'w, U> {
         requires plain { IsPlain self.old.load.now }
         requires ring { U.size self.old.up ≡ self.old.load.now.ring }
         requires room { length self.old.items.items + 2 ≤ vec_capacity self.old.items }
-        requires within { length (U.sent self.old.up) + packet_bytes self.old.load.now origin ≤ U.limit self.old.up }
+        requires within { length (U.sent self.old.up) + packet_bytes self.old.load.now origin ≤ U.limit
+            self.old.up }
         requires later { self.old.last ≤ self.old.moment }
         requires few { self.old.pending + 1 < 2 ^ 32 }
-        ensures kept { (owed rest : List Origin) → Holds U.sent U.freed self.old owed → IsPacketHere self.old.load.now self.old.items.items owed origin self.old.moment rest → HoldsAs U.sent U.freed (self.old.on && not (is_stop_reply origin)) self.new rest }
-        ensures goes { Goes U.ring U.size U.limit U.sent U.freed U.way (head_if origin) 2 (packet_bytes self.old.load.now origin) self.old self.new }
+        ensures kept { (owed rest : List Origin) → Holds U.sent U.freed self.old owed →
+            IsPacketHere self.old.load.now self.old.items.items owed origin self.old.moment rest →
+            HoldsAs U.sent U.freed (self.old.on && not (is_stop_reply origin)) self.new rest }
+        ensures goes { Goes U.ring U.size U.limit U.sent U.freed U.way (head_if origin) 2 (packet_bytes
+            self.old.load.now origin) self.old self.new }
         ensures on { self.new.on ≡ self.old.on }
         ensures last { IsLast origin self.new.items.items }
         ensures later { self.new.last ≤ self.new.moment }

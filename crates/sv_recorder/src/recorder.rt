@@ -3,7 +3,8 @@ ghost use Rattle.sv_ring.specs.Ring.{Still};
 ghost use Rattle.sv_workload.specs.Load.{script_of};
 ghost use Rattle.sv_workload.specs.Need.{need_bytes};
 ghost use Rattle.sv_recorder.specs.Answer.{IsTold};
-ghost use Rattle.sv_recorder.specs.Items.{is_call_of};
+ghost use Rattle.sv_recorder.specs.Clock.{clock_of};
+ghost use Rattle.sv_recorder.specs.Items.{latest_first, is_call_of, is_on, pending_at};
 ghost use Rattle.sv_recorder.specs.Legal.{IsLegal};
 ghost use Rattle.sv_recorder.specs.Plain.{IsPlain};
 ghost use Rattle.sv_recorder.specs.Section.{IsSection};
@@ -35,9 +36,20 @@ impl<'w, U: UpWriter + Drop> Model for Recorder<'w, U> {
 
     ghost Value = { Recording };
 
-    ghost view = { λ r. record { load = r.book.load.now; items = r.book.items.items; ring = U.ring r.book.up; size = U.size r.book.up; limit = U.limit r.book.up; sent = U.sent r.book.up; freed = U.freed r.book.up; way = U.way r.book.up } };
+    ghost view = { λ r. record {
+      load = r.book.load.now;
+      items = r.book.items.items;
+      ring = U.ring r.book.up;
+      size = U.size r.book.up;
+      limit = U.limit r.book.up;
+      sent = U.sent r.book.up;
+      freed = U.freed r.book.up;
+      way = U.way r.book.up;
+    } };
 
-    ghost invariant = { λ r. IsRecorder r.book.load.now r.book.items.items (U.sent r.book.up) (U.freed r.book.up) (U.size r.book.up) (U.limit r.book.up) r.book.on r.book.pending r.book.last r.book.moment r.place (vec_capacity r.book.items) };
+    ghost invariant = { λ r. IsRecorder r.book.load.now r.book.items.items
+        (U.sent r.book.up) (U.freed r.book.up) (U.size r.book.up) (U.limit r.book.up)
+        r.book.on r.book.pending r.book.last r.book.moment r.place (vec_capacity r.book.items) };
 }
 
 /// What is left of a recorder: its journal, and its end of the ring.
@@ -56,7 +68,16 @@ impl<'w, U: UpWriter + Drop> Recorder<'w, U> {
         requires sent { U.sent up ≡ [] }
         requires freed { U.freed up ≡ 0 }
         requires limit { need_bytes load.now ≤ U.limit up }
-        ensures { IfOk result (λ r. r ≡ record { load = load.now; items = []; ring = U.ring up; size = U.size up; limit = U.limit up; sent = []; freed = 0; way = U.way up }) }
+        ensures { IfOk result (λ r. r ≡ record {
+          load = load.now;
+          items = [];
+          ring = U.ring up;
+          size = U.size up;
+          limit = U.limit up;
+          sent = [];
+          freed = 0;
+          way = U.way up;
+        }) }
     {
         let need = load.need();
         let Ok(items) = Vec::with_capacity(alloc, need.items as usize) else {
@@ -84,15 +105,57 @@ impl<'w, U: UpWriter + Drop> Recorder<'w, U> {
         let _ = &self.book;
     }
 
+    /// How many steps of this writer's script are left.
+    pub fn left(&self, writer: u32) -> u32
+        requires { writer < length self.now.load.scripts }
+        ensures { result + count_by (λ i. is_call_of writer i.origin) self.now.items
+            ≡ length (script_of self.now.load writer) }
+    {
+        self.book.load.steps(writer).len() as u32 - self.place
+    }
+
+    /// Whether the recorder is on.
+    pub fn enabled(&self) -> bool
+        ensures { result ≡ is_on self.now.load (latest_first self.now.items) }
+    {
+        self.book.on
+    }
+
+    /// How many packets were refused that no stored overflow has counted yet.
+    pub fn pending(&self) -> u32
+        ensures { result ≡ pending_at (latest_first self.now.items) }
+    {
+        self.book.pending
+    }
+
+    /// The moment of the last section, in ticks: those of all steps so far.
+    pub fn moment(&self) -> u64
+        ensures { result ≡ clock_of self.now.load self.now.items }
+    {
+        self.book.moment
+    }
+
     /// The next step of this writer's script: its ticks pass, and it records what it says. None
     /// where the script is through.
     pub fn section(&mut self, writer: u32) -> Option<Answer>
         requires writer { writer < length self.old.load.scripts }
-        ensures through { IsNone result ↔ (count_by (λ i. is_call_of writer i.origin) self.old.items ≡ length (script_of self.old.load writer)) }
+        ensures through { IsNone result
+            ↔ (count_by (λ i. is_call_of writer i.origin) self.old.items
+            ≡ length (script_of self.old.load writer)) }
         ensures unchanged { IfNone result (self.new ≡ self.old) }
-        ensures same { (self.new.load ≡ self.old.load) × (self.new.ring ≡ self.old.ring) × (self.new.size ≡ self.old.size) × (self.new.limit ≡ self.old.limit) }
-        ensures section { IfSome result (λ _. (s : IsSection self.old.items self.new.items writer None) × (self.old.way ≡ Still → (self.new.way ≡ Still) × (self.new.freed ≡ self.old.freed) × All (λ i. i.freed ≡ self.old.freed) s.more)) }
-        ensures told { IfSome result (IsTold self.old.load self.new.items writer (count_by (λ i. is_call_of writer i.origin) self.old.items)) }
+        ensures same { (self.new.load ≡ self.old.load) × (self.new.ring ≡ self.old.ring)
+            × (self.new.size ≡ self.old.size) × (self.new.limit ≡ self.old.limit) }
+
+        // The group of the step is added; where writes free nothing, each of its items has what was
+        // freed before it.
+        ensures section { IfSome result (λ _.
+            (s : IsSection self.old.items self.new.items writer None)
+            × (self.old.way ≡ Still →
+            (self.new.way ≡ Still) × (self.new.freed ≡ self.old.freed)
+            × All (λ i. i.freed ≡ self.old.freed) s.more)) }
+        ensures told { IfSome result
+            (IsTold self.old.load self.new.items writer
+            (count_by (λ i. is_call_of writer i.origin) self.old.items)) }
     {
         let load = self.book.load;
         let steps = load.steps(writer);

@@ -5,7 +5,7 @@ use Rattle.std.specs.List.{prefix_len}
 use Rattle.std.proofs.lemmas.List.{length-append, length-reverse, length-take}
 use Rattle.std.proofs.lemmas.List.Elements.{All-head, All-tail}
 use Rattle.std.proofs.lemmas.List.Sums.{sum_by-cons, sum_by-append, count_by-le-length}
-use Rattle.sv_ring.specs.Ring.{Way, Still}
+use Rattle.sv_ring.specs.Ring.{Way}
 use Rattle.sv_workload.specs.declared.load.Step.{Step}
 use Rattle.sv_workload.specs.Load.{Load, script_of, step_of}
 use Rattle.sv_workload.specs.Need.{IsWithinLimits, need_items, need_bytes, over_steps, steps_in, act_bytes, is_start_act, one_if}
@@ -14,6 +14,7 @@ use Rattle.sv_recorder.specs.declared.journal.Origin.TheVariants.{Call}
 use Rattle.sv_recorder.specs.declared.journal.Item.{Item}
 use Rattle.sv_recorder.specs.Items.{latest_first, is_call_of, pending_at}
 use Rattle.sv_recorder.specs.Legal.{IsNextStep, ticks_of}
+use Rattle.sv_recorder.specs.Freed.{AreFreed}
 use Rattle.sv_recorder.specs.Kept.{Keeps}
 use Rattle.sv_recorder.specs.Plain.{IsPlain}
 use Rattle.sv_recorder.specs.Clock.{clock_of}
@@ -22,6 +23,7 @@ use Rattle.sv_recorder.specs.Book.{Holds, Goes}
 use Rattle.sv_recorder.specs.Section.{IsSection}
 use Rattle.sv_recorder.specs.Recording.{IsRecorder}
 use Rattle.sv_recorder.proofs.Going.{sum_latest, calls_heads, clock-goes}
+use Rattle.sv_recorder.proofs.Next.{after_refused-fresh}
 use Rattle.sv_recorder.proofs.Sections.{ticks_at}
 
 -- there is one writer
@@ -102,10 +104,10 @@ module _ {U : Type 0} (ring : U → List (List ℕ)) (size limit : U → ℕ) (s
   -- what the section added
   pub section_of : (old new : Book U) (place : ℕ) (step : Step) → Keeping old place
       → Goes ring size limit sent freed way (Call 0 place ∷ []) (step_items step) (step_bytes step) (record old { moment = old.moment + step.advance }) new
-      → (s : IsSection old.items.items new.items.items 0 None) × (way old.up ≡ Still → (way new.up ≡ Still) × (freed new.up ≡ freed old.up) × All (λ i. i.freed ≡ freed old.up) s.more)
+      → (s : IsSection old.items.items new.items.items 0 None) × AreFreed old.load.now (latest_first old.items.items) s.more (way old.up) (freed old.up) (way new.up) (freed new.up)
   section_of old new place step r goes = (
     record { more = goes.more; longer = goes.added; heads = goes.headed ∙ ap (λ (n : ℕ). Call 0 n ∷ []) r.place_is },
-    λ still. (goes.still_way still, (goes.still still).0, (goes.still still).1),
+    (goes.moved (record { stream = r.held.sent_is; last = r.held.last_is; ready = after_refused-fresh (latest_first old.items.items) r.held.opened.ends })).1,
   )
 
 -- ONE WRITER'S NEED

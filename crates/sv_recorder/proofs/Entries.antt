@@ -1,9 +1,8 @@
 -- What an entry in the book keeps, and how far the book has gone.
 use Rattle.std.proofs.Common.{◌≡◌, ℕ, ◌+◌, ◌<◌, ◌≤◌, Bool, true, false, not, ◌&&◌, List, [], ◌∷◌, ◌++◌, length, refl, sym, ap, ◌∙◌, subst, arith, append_assoc, vec_capacity}
-use Rattle.std.specs.Prelude.{filter, All, if◌then◌else◌}
+use Rattle.std.specs.Prelude.{filter, if◌then◌else◌}
 use Rattle.std.proofs.lemmas.List.{length-append}
-use Rattle.std.proofs.lemmas.List.Elements.{All-nil, All-cons}
-use Rattle.sv_ring.specs.Ring.{Way, Still}
+use Rattle.sv_ring.specs.Ring.{Way, Moves, room_of}
 use Rattle.sv_workload.specs.declared.load.Act.TheVariants as acts
 use Rattle.sv_workload.specs.Load.{Load, act_of}
 use Rattle.sv_workload.specs.Need.{act_bytes}
@@ -13,15 +12,19 @@ use Rattle.sv_recorder.specs.declared.journal.Kind.TheVariants as kinds
 use Rattle.sv_recorder.specs.declared.journal.Origin.{Origin}
 use Rattle.sv_recorder.specs.declared.journal.Origin.TheVariants.{Call, Sync, Reply, Overflow, Command}
 use Rattle.sv_recorder.specs.declared.journal.Outcome.{Outcome}
-use Rattle.sv_recorder.specs.declared.journal.Outcome.TheVariants.{Refused, Ignored}
+use Rattle.sv_recorder.specs.declared.journal.Outcome.TheVariants.{Stored, Refused, Ignored}
 use Rattle.sv_recorder.specs.declared.journal.Item.{Item}
-use Rattle.sv_recorder.specs.Items.{is_stop_reply}
+use Rattle.sv_recorder.specs.Freed.{wrote_if, AreFreed}
+use Rattle.sv_recorder.specs.Items.{latest_first, last_moment, is_stop_reply, is_stored, is_refused, is_sync, is_written, is_after_refused_overflow, block_of}
 use Rattle.sv_recorder.specs.Legal.{is_head, origins_of}
 use Rattle.sv_recorder.specs.Kept.{Keeps}
-use Rattle.sv_recorder.specs.Writes.{Writes, made, outcome_if, packet_block, IsPacketHere}
+use Rattle.sv_recorder.specs.Stream.{stream_of}
+use Rattle.sv_recorder.specs.Writes.{Writes, MovesBy, made, outcome_if, packet_block, is_telling, IsPacketHere}
 use Rattle.sv_recorder.specs.Formed.{IsFormed, packet_bytes, block_bytes}
 use Rattle.sv_recorder.specs.Book.{Holds, HoldsAs, Goes, head_if}
-use Rattle.sv_recorder.proofs.Recorded.{packet-off, packet-plain}
+use Rattle.sv_recorder.proofs.Steps.{latest_first-push, last_moment-stored, last_moment-other}
+use Rattle.sv_recorder.proofs.Freed.{Written, written-stream, written-freed, unwritten-stream, unwritten-freed, packet_written, refused_unwritten, freed-append}
+use Rattle.sv_recorder.proofs.Recorded.{packet-off, packet-plain, block_here, not_sync, not_overflow}
 use Rattle.sv_recorder.proofs.Behind.{packet-behind_refused, packet-behind_stored}
 
 -- the heads among an overflow and an item behind it
@@ -51,9 +54,45 @@ bytes_behind load (Reply kinds.Module index) formed = absurd formed
 bytes_behind load Sync formed = absurd formed
 bytes_behind load (Command byte param) formed = absurd formed
 
+-- a block is as long as the form says
+pub as_long : (slice form : List ℕ) (most : ℕ) → slice ≡ form → length form ≤ most → length slice ≤ most
+as_long slice form most same short = subst (λ (b : List ℕ). length b ≤ most) (sym same) short
+
 pub stored_length : (sent now block : List ℕ) (stored : Bool) → now ≡ sent ++ (if stored then block else []) → length now ≤ length sent + length block
 stored_length sent now block true grown = omega (arith, ap length grown, length-append sent block)
 stored_length sent now block false grown = omega (arith, ap length grown, length-append {A = ℕ} sent [])
+
+pub headed_one : (origin : Origin) (moment freed : ℕ) (outcome : Outcome) → filter is_head (origins_of (made origin moment freed outcome ∷ [])) ≡ head_if origin
+headed_one (Call writer step) moment freed outcome = refl
+headed_one Sync moment freed outcome = refl
+headed_one (Reply kind index) moment freed outcome = refl
+headed_one (Overflow count) moment freed outcome = refl
+headed_one (Command byte param) moment freed outcome = refl
+
+headed_at : (origin : Origin) (count moment moment_now freed freed_now : ℕ) (told outcome : Outcome) → moment_now ≡ moment
+    → filter is_head (origins_of (made (Overflow count) moment freed told ∷ made origin moment_now freed_now outcome ∷ [])) ≡ head_if origin
+headed_at origin count moment moment_now freed freed_now told outcome same =
+    subst (λ (k : ℕ). filter is_head (origins_of (made (Overflow count) moment freed told ∷ made origin k freed_now outcome ∷ [])) ≡ head_if origin) (sym same)
+    (headed_behind origin count moment freed freed_now told outcome)
+
+-- the moment of the last stored packet, behind a write
+settled_last : (earlier : List Item) (i : Item) (moment last moment_now last_now : ℕ) (stored : Bool) → i.outcome ≡ outcome_if stored → i.moment ≡ moment → is_sync i.origin ≡ false
+    → moment_now ≡ moment → last_now ≡ last_moment earlier → (if stored then moment_now else last_now) ≡ last_moment (i ∷ earlier)
+settled_last earlier i moment last moment_now last_now true outcome at other same before = same ∙ sym at ∙ sym (last_moment-stored earlier i (ap is_stored outcome) other)
+settled_last earlier i moment last moment_now last_now false outcome at other same before =
+    before ∙ sym (last_moment-other earlier i (ap (λ (b : Bool). b && not (is_sync i.origin)) (ap is_stored outcome)))
+
+last_again : (earlier : List Item) (i : Item) (moment : ℕ) (stored : Bool) → i.outcome ≡ outcome_if stored → i.moment ≡ moment → is_sync i.origin ≡ false
+    → last_moment earlier ≡ moment → last_moment (i ∷ earlier) ≡ moment
+last_again earlier i moment true outcome at other before = last_moment-stored earlier i (ap is_stored outcome) other ∙ at
+last_again earlier i moment false outcome at other before = last_moment-other earlier i (ap (λ (b : Bool). b && not (is_sync i.origin)) (ap is_stored outcome)) ∙ before
+
+-- a write leaves the workload and the moment
+pub same_load : {U : Type 0} (old mid : Book U) → mid ≡ record old { items = mid.items; up = mid.up } → mid.load.now ≡ old.load.now
+same_load {U} old mid written = ap (λ (b : Book U). b.load.now) written
+
+pub same_moment : {U : Type 0} (old mid : Book U) → mid ≡ record old { items = mid.items; up = mid.up } → mid.moment ≡ old.moment
+same_moment {U} old mid written = ap (λ (b : Book U). b.moment) written
 
 module _ {U : Type 0} (ring : U → List (List ℕ)) (size limit : U → ℕ) (sent : U → List ℕ) (freed : U → ℕ) (way : U → Way) where
   -- while the recorder is off
@@ -151,48 +190,176 @@ module _ {U : Type 0} (ring : U → List (List ℕ)) (size limit : U → ℕ) (s
       either true m = refl
       either false m = refl
 
-  pub behind-goes : (old first second new : Book U) (origin : Origin) (overflow block : List ℕ) (stored : Bool) (pending last : ℕ)
+  -- what a write of an item's block moves
+  pub write-moved : (old mid : Book U) (origin : Origin) (block : List ℕ) (stored : Bool)
+      → mid ≡ record old { items = mid.items; up = mid.up } → size old.up ≡ old.load.now.ring
+      → Writes (size old.up) old.items.items mid.items.items (sent old.up) (sent mid.up) (freed old.up) (freed mid.up) origin old.moment block stored
+      → MovesBy size sent freed way old.up mid.up block stored
+      → sent old.up ≡ stream_of old.load.now old.items.items
+      → is_written (latest_first old.items.items) (made origin old.moment (freed mid.up) (outcome_if stored)) ≡ true
+      → block ≡ block_of old.load.now (latest_first old.items.items) (made origin old.moment (freed mid.up) (outcome_if stored))
+      → (sent mid.up ≡ stream_of mid.load.now mid.items.items)
+      × AreFreed old.load.now (latest_first old.items.items) (made origin old.moment (freed mid.up) (outcome_if stored) ∷ []) (way old.up) (freed old.up) (way mid.up) (freed mid.up)
+  write-moved old mid origin block stored written fits w moves stream is_item block_is =
+      let i : Item = made origin old.moment (freed mid.up) (outcome_if stored) in
+      let this : Written old.load.now old.items.items (sent old.up) block i stored = record { stream = stream; written = is_item; block_is = block_is; outcome = refl } in
+      (
+        written-stream old.load.now old.items.items (sent old.up) (sent mid.up) block i stored this w.grown ∙ sym (ap (λ (l : Load). stream_of l mid.items.items) (same_load old mid written) ∙ ap (stream_of old.load.now) w.item),
+        written-freed old.load.now old.items.items (sent old.up) block i stored (way old.up) (way mid.up) (freed old.up) this moves.0
+        (subst (λ (n : ℕ). Moves (way old.up) n (freed old.up) (freed mid.up) (sent old.up) block (wrote_if stored (room_of n (sent old.up) (freed mid.up)))) fits moves.1),
+      )
+
+  pub plain-goes : (old mid new : Book U) (origin : Origin) (block : List ℕ) (stored : Bool)
+      → mid ≡ record old { items = mid.items; up = mid.up }
+      → new ≡ record mid { pending = if stored then 0 else 1; last = if stored then mid.moment else mid.last }
+      → size old.up ≡ old.load.now.ring
+      → (ring mid.up ≡ ring old.up) × (size mid.up ≡ size old.up) × (limit mid.up ≡ limit old.up) → vec_capacity mid.items ≡ vec_capacity old.items
+      → Writes (size old.up) old.items.items mid.items.items (sent old.up) (sent mid.up) (freed old.up) (freed mid.up) origin old.moment block stored
+      → MovesBy size sent freed way old.up mid.up block stored
+      → block ≡ packet_block old.load.now origin old.moment old.last → length block ≤ block_bytes old.load.now origin
+      → is_telling origin ≡ true → IsFormed old.load.now origin
+      → Goes ring size limit sent freed way (head_if origin) 2 (packet_bytes old.load.now origin) old new
+  plain-goes old mid new origin block stored written settled fits same capacity w moves formed short telling fine =
+      let earlier : List Item = latest_first old.items.items in
+      let i : Item = made origin old.moment (freed mid.up) (outcome_if stored) in
+      let latest : latest_first mid.items.items ≡ i ∷ earlier = ap latest_first w.item ∙ latest_first-push old.items.items i in
+      let one = stored_length (sent old.up) (sent mid.up) block stored w.grown in
+      subst (Goes ring size limit sent freed way (head_if origin) 2 (packet_bytes old.load.now origin) old) (sym settled) (record {
+        load = same_load old mid written;
+        moment = same_moment old mid written;
+        ring_same = same.0;
+        size_same = same.1;
+        limit_same = same.2;
+        capacity = capacity;
+        more = i ∷ [];
+        added = w.item;
+        headed = headed_one origin old.moment (freed mid.up) (outcome_if stored);
+        few = omega arith;
+        short = omega (arith, one, short, bytes_behind old.load.now origin fine);
+        moved = λ s.
+            let m = write-moved old mid origin block stored written fits w moves s.stream (packet_written earlier origin old.moment (freed mid.up) stored telling s.ready)
+            (formed ∙ sym (block_here old.load.now earlier origin old.moment (freed mid.up) old.last (outcome_if stored) telling s.last)) in
+            (
+              record {
+                stream = m.0;
+                last = settled_last earlier i old.moment old.last mid.moment mid.last stored refl refl (not_sync origin telling) (same_moment old mid written) (ap (λ (b : Book U). b.last) written ∙ s.last) ∙ sym (ap last_moment latest);
+                ready = ap is_after_refused_overflow latest ∙ ap (λ (b : Bool). b && is_refused (outcome_if stored)) (not_overflow origin telling);
+              },
+              m.1,
+            );
+      })
+
+  -- refused with the overflow before it
+  pub refused-goes : (old mid new : Book U) (origin : Origin) (overflow : List ℕ) (pending : ℕ)
+      → mid ≡ record old { items = mid.items; up = mid.up }
+      → new ≡ record mid { items = new.items }
+      → size old.up ≡ old.load.now.ring
+      → (ring mid.up ≡ ring old.up) × (size mid.up ≡ size old.up) × (limit mid.up ≡ limit old.up)
+      → vec_capacity mid.items ≡ vec_capacity old.items → vec_capacity new.items ≡ vec_capacity mid.items
+      → Writes (size old.up) old.items.items mid.items.items (sent old.up) (sent mid.up) (freed old.up) (freed mid.up) (Overflow old.pending) old.moment overflow false
+      → MovesBy size sent freed way old.up mid.up overflow false
+      → overflow ≡ packet_block old.load.now (Overflow old.pending) old.moment old.last
+      → new.items.items ≡ mid.items.items ++ made origin mid.moment (freed mid.up) Refused ∷ []
+      → is_telling origin ≡ true
+      → Goes ring size limit sent freed way (head_if origin) 2 (packet_bytes old.load.now origin) old (record new { pending = pending })
+  refused-goes old mid new origin overflow pending written noted fits same capacity capacity2 w moves formed item telling =
+      let earlier : List Item = latest_first old.items.items in
+      let o : Item = made (Overflow old.pending) old.moment (freed mid.up) Refused in
+      let i : Item = made origin mid.moment (freed mid.up) Refused in
+      let up : new.up ≡ mid.up = ap (λ (b : Book U). b.up) noted in
+      let load : new.load.now ≡ mid.load.now = ap (λ (b : Book U). b.load.now) noted in
+      let mid_load = same_load old mid written in
+      let behind : latest_first mid.items.items ≡ o ∷ earlier = ap latest_first w.item ∙ latest_first-push old.items.items o in
+      let latest : latest_first new.items.items ≡ i ∷ latest_first mid.items.items = ap latest_first item ∙ latest_first-push mid.items.items i in
+      record {
+        load = load ∙ mid_load;
+        moment = ap (λ (b : Book U). b.moment) noted ∙ same_moment old mid written;
+        ring_same = ap ring up ∙ same.0;
+        size_same = ap size up ∙ same.1;
+        limit_same = ap limit up ∙ same.2;
+        capacity = capacity2 ∙ capacity;
+        more = o ∷ i ∷ [];
+        added = item ∙ ap (λ (is : List Item). is ++ i ∷ []) w.item ∙ append_assoc old.items.items (o ∷ []) (i ∷ []);
+        headed = headed_at origin old.pending old.moment mid.moment (freed mid.up) (freed mid.up) Refused Refused (same_moment old mid written);
+        few = omega arith;
+        short = omega (arith, ap length w.grown, length-append {A = ℕ} (sent old.up) [], ap (λ (u : U). length (sent u)) up);
+        moved = λ s.
+            let m = write-moved old mid (Overflow old.pending) overflow false written fits w moves s.stream refl (formed ∙ ap (packet_block old.load.now (Overflow old.pending) old.moment) s.last) in
+            let alone = unwritten-freed old.load.now (latest_first mid.items.items) i (way mid.up) (freed mid.up)
+            (refused_unwritten (latest_first mid.items.items) origin mid.moment (freed mid.up) telling (ap is_after_refused_overflow behind)) refl in
+            (
+              record {
+                stream = ap sent up ∙ unwritten-stream mid.load.now mid.items.items (sent mid.up) i m.0 refl ∙ sym (ap (λ (l : Load). stream_of l new.items.items) load ∙ ap (stream_of mid.load.now) item);
+                last = ap (λ (b : Book U). b.last) noted ∙ ap (λ (b : Book U). b.last) written ∙ s.last
+                ∙ sym (ap last_moment latest ∙ last_moment-other (latest_first mid.items.items) i refl ∙ ap last_moment behind ∙ last_moment-other earlier o refl);
+                ready = ap is_after_refused_overflow latest ∙ ap (λ (b : Bool). b && true) (not_overflow origin telling);
+              },
+              subst (λ (u : U). AreFreed old.load.now earlier (o ∷ i ∷ []) (way old.up) (freed old.up) (way u) (freed u)) (sym up)
+              (freed-append old.load.now old.items.items (o ∷ []) (i ∷ []) (way old.up) (way mid.up) (way mid.up) (freed old.up) (freed mid.up) (freed mid.up) m.1
+              (subst (λ (is : List Item). AreFreed old.load.now (latest_first is) (i ∷ []) (way mid.up) (freed mid.up) (way mid.up) (freed mid.up)) w.item alone)),
+            );
+      }
+
+  -- written behind a stored overflow
+  pub behind-goes : (old first second new : Book U) (origin : Origin) (overflow block : List ℕ) (stored : Bool) (pending : ℕ)
       → first ≡ record old { items = first.items; up = first.up }
       → second ≡ record first { items = second.items; up = second.up }
-      → new ≡ record second { pending = pending; last = last }
+      → new ≡ record second { pending = pending; last = if stored then second.moment else second.moment }
+      → size old.up ≡ old.load.now.ring
       → (ring first.up ≡ ring old.up) × (size first.up ≡ size old.up) × (limit first.up ≡ limit old.up)
       → (ring second.up ≡ ring first.up) × (size second.up ≡ size first.up) × (limit second.up ≡ limit first.up)
       → vec_capacity first.items ≡ vec_capacity old.items → vec_capacity second.items ≡ vec_capacity first.items
-      → (way old.up ≡ Still → (way first.up ≡ Still) × (freed first.up ≡ freed old.up))
-      → (way first.up ≡ Still → (way second.up ≡ Still) × (freed second.up ≡ freed first.up))
       → Writes (size old.up) old.items.items first.items.items (sent old.up) (sent first.up) (freed old.up) (freed first.up) (Overflow old.pending) old.moment overflow true
       → Writes (size first.up) first.items.items second.items.items (sent first.up) (sent second.up) (freed first.up) (freed second.up) origin first.moment block stored
-      → length overflow ≤ 11 → length block ≤ block_bytes old.load.now origin → IsFormed old.load.now origin
+      → MovesBy size sent freed way old.up first.up overflow true → MovesBy size sent freed way first.up second.up block stored
+      → overflow ≡ packet_block old.load.now (Overflow old.pending) old.moment old.last → block ≡ packet_block old.load.now origin old.moment old.moment
+      → length overflow ≤ 11 → length block ≤ block_bytes old.load.now origin → is_telling origin ≡ true → IsFormed old.load.now origin
       → Goes ring size limit sent freed way (head_if origin) 2 (packet_bytes old.load.now origin) old new
-  behind-goes old first second new origin overflow block stored pending last written again settled same same2 capacity capacity2 still still2 v w short short2 formed =
-      let first_moment : first.moment ≡ old.moment = ap (λ (b : Book U). b.moment) written in
-      let item1 = v.item in
-      let item2 = w.item in
+  behind-goes old first second new origin overflow block stored pending written again settled fits same same2 capacity capacity2 v w moves moves2 formed formed2 short short2 telling fine =
+      let earlier : List Item = latest_first old.items.items in
+      let o : Item = made (Overflow old.pending) old.moment (freed first.up) Stored in
+      let i : Item = made origin first.moment (freed second.up) (outcome_if stored) in
+      let first_load = same_load old first written in
+      let first_moment = same_moment old first written in
+      let behind : latest_first first.items.items ≡ o ∷ earlier = ap latest_first v.item ∙ latest_first-push old.items.items o in
+      let latest : latest_first second.items.items ≡ i ∷ latest_first first.items.items = ap latest_first w.item ∙ latest_first-push first.items.items i in
       let one = stored_length (sent old.up) (sent first.up) overflow true v.grown in
       let two = stored_length (sent first.up) (sent second.up) block stored w.grown in
+      let last_first : last_moment (latest_first first.items.items) ≡ first.moment = ap last_moment behind ∙ sym first_moment in
       subst (Goes ring size limit sent freed way (head_if origin) 2 (packet_bytes old.load.now origin) old) (sym settled) (record {
-        load = ap (λ (b : Book U). b.load.now) again ∙ ap (λ (b : Book U). b.load.now) written;
-        moment = ap (λ (b : Book U). b.moment) again ∙ first_moment;
+        load = same_load first second again ∙ first_load;
+        moment = same_moment first second again ∙ first_moment;
         ring_same = same2.0 ∙ same.0;
         size_same = same2.1 ∙ same.1;
         limit_same = same2.2 ∙ same.2;
         capacity = capacity2 ∙ capacity;
-        more = made (Overflow old.pending) old.moment (freed first.up) (outcome_if true) ∷ made origin first.moment (freed second.up) (outcome_if stored) ∷ [];
-        added = item2 ∙ ap (λ (is : List Item). is ++ made origin first.moment (freed second.up) (outcome_if stored) ∷ []) item1 ∙ append_assoc old.items.items (made (Overflow old.pending) old.moment (freed first.up) (outcome_if true) ∷ []) (made origin first.moment (freed second.up) (outcome_if stored) ∷ []);
-        headed = headed_at first.moment first_moment;
+        more = o ∷ i ∷ [];
+        added = w.item ∙ ap (λ (is : List Item). is ++ i ∷ []) v.item ∙ append_assoc old.items.items (o ∷ []) (i ∷ []);
+        headed = headed_at origin old.pending old.moment first.moment (freed first.up) (freed second.up) Stored (outcome_if stored) first_moment;
         few = omega arith;
-        short = omega (arith, one, two, short, short2, bytes_behind old.load.now origin formed);
-        still_way = λ is. (still2 (still is).0).0;
-        still = λ is. let a = still is in let b = still2 a.0 in (b.1 ∙ a.1, both (freed old.up) _ _ a.1 (b.1 ∙ a.1));
+        short = omega (arith, one, two, short, short2, bytes_behind old.load.now origin fine);
+        moved = λ s.
+            let m = write-moved old first (Overflow old.pending) overflow true written fits v moves s.stream refl (formed ∙ ap (packet_block old.load.now (Overflow old.pending) old.moment) s.last) in
+            let block_is : block ≡ packet_block first.load.now origin first.moment first.moment = formed2 ∙ sym (ap (λ (l : Load). packet_block l origin first.moment first.moment) first_load ∙ ap (λ (n : ℕ). packet_block old.load.now origin n n) first_moment) in
+            let m2 = write-moved first second origin block stored again (same.1 ∙ fits ∙ sym (ap (λ (l : Load). l.ring) first_load)) w moves2 m.0
+            (packet_written (latest_first first.items.items) origin first.moment (freed second.up) stored telling (ap is_after_refused_overflow behind))
+            (block_is ∙ sym (block_here first.load.now (latest_first first.items.items) origin first.moment (freed second.up) first.moment (outcome_if stored) telling (sym last_first))) in
+            (
+              record {
+                stream = m2.0;
+                last = either stored second.moment ∙ same_moment first second again
+                ∙ sym (ap last_moment latest ∙ last_again (latest_first first.items.items) i first.moment stored refl refl (not_sync origin telling) last_first);
+                ready = ap is_after_refused_overflow latest ∙ ap (λ (b : Bool). b && is_refused (outcome_if stored)) (not_overflow origin telling);
+              },
+              freed-append old.load.now old.items.items (o ∷ []) (i ∷ []) (way old.up) (way first.up) (way second.up) (freed old.up) (freed first.up) (freed second.up) m.1
+              (subst (λ (is : List Item). AreFreed old.load.now (latest_first is) (i ∷ []) (way first.up) (freed first.up) (way second.up) (freed second.up)) v.item
+              (subst (λ (l : Load). AreFreed l (latest_first first.items.items) (i ∷ []) (way first.up) (freed first.up) (way second.up) (freed second.up)) first_load m2.1)),
+            );
       })
     where
-      both : (f : ℕ) (i j : Item) → i.freed ≡ f → j.freed ≡ f → All (λ k. k.freed ≡ f) (i ∷ j ∷ [])
-      both f i j p q = All-cons (λ (k : Item). k.freed ≡ f) i (j ∷ []) p (All-cons (λ (k : Item). k.freed ≡ f) j [] q (All-nil (λ (k : Item). k.freed ≡ f)))
-
-      headed_at : (m : ℕ) → m ≡ old.moment → filter is_head (origins_of (made (Overflow old.pending) old.moment (freed first.up) (outcome_if true) ∷ made origin m (freed second.up) (outcome_if stored) ∷ [])) ≡ head_if origin
-      headed_at m e =
-          subst (λ (k : ℕ). filter is_head (origins_of (made (Overflow old.pending) old.moment (freed first.up) (outcome_if true) ∷ made origin k (freed second.up) (outcome_if stored) ∷ [])) ≡ head_if origin) (sym e)
-          (headed_behind origin old.pending old.moment (freed first.up) (freed second.up) (outcome_if true) (outcome_if stored))
+      either : (b : Bool) (m : ℕ) → (if b then m else m) ≡ m
+      either true m = refl
+      either false m = refl
 
 -- what is left of the ring's limit behind a stored overflow
 pub room_behind : (load : Load) (origin : Origin) (sent now overflow block : List ℕ) (limit : ℕ) → IsFormed load origin → now ≡ sent ++ overflow → length overflow ≤ 11 → length block ≤ block_bytes load origin
@@ -202,10 +369,3 @@ room_behind load origin sent now overflow block limit formed grown short short2 
 
 pub and-not : (on : Bool) (b : Bool) → on ≡ true → (on && b) ≡ b
 and-not on b is = ap (λ (k : Bool). k && b) is
-
--- a write leaves the workload and the moment
-pub same_load : {U : Type 0} (old mid : Book U) → mid ≡ record old { items = mid.items; up = mid.up } → mid.load.now ≡ old.load.now
-same_load {U} old mid written = ap (λ (b : Book U). b.load.now) written
-
-pub same_moment : {U : Type 0} (old mid : Book U) → mid ≡ record old { items = mid.items; up = mid.up } → mid.moment ≡ old.moment
-same_moment {U} old mid written = ap (λ (b : Book U). b.moment) written

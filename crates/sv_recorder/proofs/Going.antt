@@ -1,8 +1,8 @@
 -- How a book goes on, and what its clock shows.
-use Rattle.std.proofs.Common.{◌≡◌, ℕ, ◌+◌, ◌≤◌, not, cond, List, [], ◌∷◌, ◌++◌, length, refl, sym, ap, ◌∙◌, subst, arith, append_assoc, vec_capacity}
-use Rattle.std.specs.Prelude.{filter, map, All, sum_by, count_by}
+use Rattle.std.proofs.Common.{◌≡◌, ℕ, ◌+◌, ◌≤◌, Bool, false, not, ◌&&◌, cond, List, [], ◌∷◌, ◌++◌, length, refl, sym, ap, ◌∙◌, subst, arith, append_assoc, vec_capacity}
+use Rattle.std.specs.Prelude.{filter, map, sum_by, count_by}
 use Rattle.std.proofs.lemmas.List.{length-append, append-nil, map-append}
-use Rattle.std.proofs.lemmas.List.Elements.{All-nil, All-cons, All-append, filter-append}
+use Rattle.std.proofs.lemmas.List.Elements.{filter-append}
 use Rattle.std.proofs.lemmas.List.Sums.{sum_by-cons}
 use Rattle.sv_ring.specs.Ring.{Way}
 use Rattle.sv_workload.specs.Load.{Load}
@@ -11,12 +11,15 @@ use Rattle.sv_recorder.specs.declared.journal.Origin.{Origin}
 use Rattle.sv_recorder.specs.declared.journal.Origin.TheVariants.{Call, Sync, Reply, Overflow, Command}
 use Rattle.sv_recorder.specs.declared.journal.Outcome.{Outcome}
 use Rattle.sv_recorder.specs.declared.journal.Item.{Item}
-use Rattle.sv_recorder.specs.Items.{latest_first, is_call_of, is_overflow}
+use Rattle.sv_recorder.specs.Freed.{AreFreed}
+use Rattle.sv_recorder.specs.Items.{latest_first, last_moment, is_call_of, is_overflow, is_stored, is_refused, is_sync, is_written, is_after_refused_overflow}
 use Rattle.sv_recorder.specs.Legal.{is_head, origins_of, ticks_of}
 use Rattle.sv_recorder.specs.Book.{Goes, head_if}
+use Rattle.sv_recorder.specs.Stream.{stream_of}
 use Rattle.sv_recorder.specs.Clock.{clock_of}
 use Rattle.sv_recorder.specs.Writes.{made}
-use Rattle.sv_recorder.proofs.Steps.{latest_first-push}
+use Rattle.sv_recorder.proofs.Freed.{freed-append, unwritten-stream, unwritten-freed}
+use Rattle.sv_recorder.proofs.Steps.{latest_first-push, last_moment-other}
 
 -- the heads among some origins
 abbrev heads_in : List Origin → List Origin
@@ -61,8 +64,8 @@ sum_latest f items (i ∷ more) =
     ap (λ (k : List Item). sum_by f (latest_first k)) regrouped ∙ omega (arith, first, others, here)
 
 module _ {U : Type 0} (ring : U → List (List ℕ)) (size limit : U → ℕ) (sent : U → List ℕ) (freed : U → ℕ) (way : U → Way) where
-  pub goes-none : (old new : Book U) → new.load.now ≡ old.load.now → new.moment ≡ old.moment → new.up ≡ old.up → new.items ≡ old.items → Goes ring size limit sent freed way [] 0 0 old new
-  goes-none old new load moment up items = record {
+  pub goes-none : (old new : Book U) → new.load.now ≡ old.load.now → new.moment ≡ old.moment → new.up ≡ old.up → new.items ≡ old.items → new.last ≡ old.last → Goes ring size limit sent freed way [] 0 0 old new
+  goes-none old new load moment up items last = record {
     load = load;
     moment = moment;
     ring_same = ap ring up;
@@ -74,8 +77,14 @@ module _ {U : Type 0} (ring : U → List (List ℕ)) (size limit : U → ℕ) (s
     headed = refl;
     few = omega arith;
     short = omega (arith, ap (λ u. length (sent u)) up);
-    still_way = λ is. ap way up ∙ is;
-    still = λ is. (ap freed up, All-nil (λ (i : Item). i.freed ≡ freed old.up));
+    moved = λ s. (
+      record {
+        stream = ap sent up ∙ s.stream ∙ sym (ap (λ (l : Load). stream_of l new.items.items) load ∙ ap (λ v. stream_of old.load.now v.items) items);
+        last = last ∙ s.last ∙ sym (ap (λ v. last_moment (latest_first v.items)) items);
+        ready = ap (λ v. is_after_refused_overflow (latest_first v.items)) items ∙ s.ready;
+      },
+      (ap way up, ap freed up),
+    );
   }
 
   pub goes-then : (old mid new : Book U) (h k : List Origin) (m n a b : ℕ) → Goes ring size limit sent freed way h m a old mid → Goes ring size limit sent freed way k n b mid new
@@ -92,9 +101,11 @@ module _ {U : Type 0} (ring : U → List (List ℕ)) (size limit : U → ℕ) (s
     headed = heads_append p.more q.more ∙ ap (λ (os : List Origin). os ++ filter is_head (origins_of q.more)) p.headed ∙ ap (λ (os : List Origin). h ++ os) q.headed;
     few = omega (arith, p.few, q.few, length-append p.more q.more);
     short = omega (arith, p.short, q.short);
-    still_way = λ is. q.still_way (p.still_way is);
-    still = λ is. let one = p.still is in let two = q.still (p.still_way is) in
-        (two.0 ∙ one.0, All-append (λ (i : Item). i.freed ≡ freed old.up) p.more q.more one.1 (subst (λ (f : ℕ). All (λ i. i.freed ≡ f) q.more) one.0 two.1));
+    moved = λ s. let one = p.moved s in let two = q.moved one.0 in
+        let behind : AreFreed old.load.now (latest_first (old.items.items ++ p.more)) q.more (way mid.up) (freed mid.up) (way new.up) (freed new.up) =
+        subst (λ (is : List Item). AreFreed old.load.now (latest_first is) q.more (way mid.up) (freed mid.up) (way new.up) (freed new.up)) p.added
+        (subst (λ (l : Load). AreFreed l (latest_first mid.items.items) q.more (way mid.up) (freed mid.up) (way new.up) (freed new.up)) p.load two.1) in
+        (two.0, freed-append old.load.now old.items.items p.more q.more (way old.up) (way mid.up) (way new.up) (freed old.up) (freed mid.up) (freed new.up) one.1 behind);
   } where
     heads_append : (xs ys : List Item) → filter is_head (origins_of (xs ++ ys)) ≡ filter is_head (origins_of xs) ++ filter is_head (origins_of ys)
     heads_append xs ys =
@@ -103,10 +114,10 @@ module _ {U : Type 0} (ring : U → List (List ℕ)) (size limit : U → ℕ) (s
         ∙ filter-append is_head (origins_of xs) (origins_of ys)
 
   -- a later state that is told otherwise
-  pub goes-to : (old mid new : Book U) (h : List Origin) (m a : ℕ) → Goes ring size limit sent freed way h m a old mid → new.load.now ≡ mid.load.now → new.moment ≡ mid.moment → new.up ≡ mid.up → new.items ≡ mid.items
+  pub goes-to : (old mid new : Book U) (h : List Origin) (m a : ℕ) → Goes ring size limit sent freed way h m a old mid → new.load.now ≡ mid.load.now → new.moment ≡ mid.moment → new.up ≡ mid.up → new.items ≡ mid.items → new.last ≡ mid.last
       → Goes ring size limit sent freed way h m a old new
-  goes-to old mid new h m a p load moment up items =
-      let whole = goes-then old mid new h [] m 0 a 0 p (goes-none mid new load moment up items) in
+  goes-to old mid new h m a p load moment up items last =
+      let whole = goes-then old mid new h [] m 0 a 0 p (goes-none mid new load moment up items last) in
       let heads : h ++ [] ≡ h = append-nil h in
       let count : m + 0 ≡ m = omega arith in
       let bytes : a + 0 ≡ a = omega arith in
@@ -123,9 +134,12 @@ module _ {U : Type 0} (ring : U → List (List ℕ)) (size limit : U → ℕ) (s
   -- a note of an item that takes nothing from the ring
   pub goes-note : (old new : Book U) (origin : Origin) (outcome : Outcome) → new ≡ record old { items = new.items } → vec_capacity new.items ≡ vec_capacity old.items
       → new.items.items ≡ old.items.items ++ made origin old.moment (freed old.up) outcome ∷ [] → filter is_head (origins_of (made origin old.moment (freed old.up) outcome ∷ [])) ≡ head_if origin
+      → is_stored outcome ≡ false → is_overflow origin ≡ false → is_written (latest_first old.items.items) (made origin old.moment (freed old.up) outcome) ≡ false
       → Goes ring size limit sent freed way (head_if origin) 1 0 old new
-  goes-note old new origin outcome changed capacity item headed =
+  goes-note old new origin outcome changed capacity item headed not_stored not_overflow not_written =
       let up : new.up ≡ old.up = ap (λ (b : Book U). b.up) changed in
+      let i : Item = made origin old.moment (freed old.up) outcome in
+      let latest : latest_first new.items.items ≡ i ∷ latest_first old.items.items = ap latest_first item ∙ latest_first-push old.items.items i in
       record {
         load = ap (λ (b : Book U). b.load.now) changed;
         moment = ap (λ (b : Book U). b.moment) changed;
@@ -138,8 +152,16 @@ module _ {U : Type 0} (ring : U → List (List ℕ)) (size limit : U → ℕ) (s
         headed = headed;
         few = omega arith;
         short = omega (arith, ap (λ u. length (sent u)) up);
-        still_way = λ is. ap way up ∙ is;
-        still = λ is. (ap freed up, All-cons (λ (i : Item). i.freed ≡ freed old.up) _ [] refl (All-nil (λ (i : Item). i.freed ≡ freed old.up)));
+        moved = λ s. (
+          record {
+            stream = ap sent up ∙ unwritten-stream old.load.now old.items.items (sent old.up) i s.stream not_stored
+            ∙ sym (ap (λ (b : Book U). stream_of b.load.now new.items.items) changed ∙ ap (stream_of old.load.now) item);
+            last = ap (λ (b : Book U). b.last) changed ∙ s.last ∙ sym (ap last_moment latest ∙ last_moment-other (latest_first old.items.items) i (ap (λ (b : Bool). b && not (is_sync origin)) not_stored));
+            ready = ap is_after_refused_overflow latest ∙ ap (λ (b : Bool). b && is_refused outcome) not_overflow;
+          },
+          subst (λ (u : U). AreFreed old.load.now (latest_first old.items.items) (i ∷ []) (way old.up) (freed old.up) (way u) (freed u)) (sym up)
+          (unwritten-freed old.load.now (latest_first old.items.items) i (way old.up) (freed old.up) not_written refl),
+        );
       }
 
   -- at most so much is at most more
@@ -156,6 +178,5 @@ module _ {U : Type 0} (ring : U → List (List ℕ)) (size limit : U → ℕ) (s
     headed = p.headed;
     few = omega (arith, p.few, few);
     short = omega (arith, p.short, short);
-    still_way = p.still_way;
-    still = p.still;
+    moved = p.moved;
   }

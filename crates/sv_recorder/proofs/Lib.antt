@@ -12,6 +12,7 @@ pub mod NotCommands
 pub mod NotAsked
 pub mod Told
 pub mod Steps
+pub mod Freed
 pub mod Next
 pub mod Kept
 pub mod Gated

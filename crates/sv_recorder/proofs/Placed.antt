@@ -1,13 +1,14 @@
 -- A step by its writer and place, and what a section leaves and shows.
 use Rattle.std.proofs.Common.{◌≡◌, ℕ, zero, suc, ◌+◌, ◌<◌, ◌≤◌, List, [], ◌∷◌, length, sym, ap, ◌∙◌, subst, arith, vec_capacity}
-use Rattle.std.specs.Prelude.{All, count_by, slice_get, slice_index_or, Some, None}
-use Rattle.sv_ring.specs.Ring.{Way, Still}
+use Rattle.std.specs.Prelude.{count_by, slice_get, slice_index_or, Some, None}
+use Rattle.sv_ring.specs.Ring.{Way}
 use Rattle.sv_workload.specs.declared.load.Step.{Step}
 use Rattle.sv_workload.specs.Load.{script_of}
 use Rattle.sv_recorder.specs.declared.answer.Answer.{Answer}
 use Rattle.sv_recorder.specs.declared.book.Book.{Book}
 use Rattle.sv_recorder.specs.declared.journal.Origin.TheVariants.{Call}
 use Rattle.sv_recorder.specs.Answer.{IsTold}
+use Rattle.sv_recorder.specs.Freed.{AreFreed}
 use Rattle.sv_recorder.specs.Items.{latest_first, is_call_of}
 use Rattle.sv_recorder.specs.Legal.{IsNextStep}
 use Rattle.sv_recorder.specs.Clock.{clock_of}
@@ -53,7 +54,7 @@ module _ {U : Type 0} (ring : U → List (List ℕ)) (size limit : U → ℕ) (s
       taken ring size limit sent freed way old new place step r of (subst (λ (w : ℕ). Kept old new w place) only kept) (subst (λ (w : ℕ). Gone old new w place step) only goes) moment later
 
   abbrev SectionOf : Recording → Book U → ℕ → Type 0
-  SectionOf view new writer = (s : IsSection view.items new.items.items writer None) × (view.way ≡ Still → (way new.up ≡ Still) × (freed new.up ≡ view.freed) × All (λ i. i.freed ≡ view.freed) s.more)
+  SectionOf view new writer = (s : IsSection view.items new.items.items writer None) × AreFreed view.load (latest_first view.items) s.more view.way view.freed (way new.up) (freed new.up)
 
   pub section_shown : (old new : Book U) (writer place : ℕ) (step : Step) (view : Recording) → Shown old ≡ view → Keeping old place → writer ≡ 0 → Gone old new writer place step → SectionOf view new writer
   section_shown old new writer place step view is r only goes =

@@ -106,7 +106,7 @@ packet-off load items after owed rest sent freed pending last origin moment k p 
     (keeps-ignored load items owed rest sent freed pending last i k here refl (not_start load origin p.control) refl)
 
 -- the block is that of the item
-block_here : (load : Load) (earlier : List Item) (origin : Origin) (moment freed last : ℕ) (outcome : Outcome) → is_telling origin ≡ true → last ≡ last_moment earlier
+pub block_here : (load : Load) (earlier : List Item) (origin : Origin) (moment freed last : ℕ) (outcome : Outcome) → is_telling origin ≡ true → last ≡ last_moment earlier
     → block_of load earlier (made origin moment freed outcome) ≡ packet_block load origin moment last
 block_here load earlier origin moment freed last outcome telling same =
     ap (λ b. cond b (replicate 10 0) (packet_block load origin moment (last_moment earlier))) (not_sync origin telling)

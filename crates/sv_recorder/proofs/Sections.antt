@@ -17,47 +17,55 @@ use Rattle.sv_recorder.specs.declared.journal.Origin.TheVariants.{Call, Sync, Re
 use Rattle.sv_recorder.specs.declared.journal.Outcome.{Outcome}
 use Rattle.sv_recorder.specs.declared.journal.Outcome.TheVariants.{Handled}
 use Rattle.sv_recorder.specs.declared.journal.Item.{Item}
-use Rattle.sv_recorder.specs.Items.{latest_first, is_stop_reply}
+use Rattle.sv_recorder.specs.Items.{latest_first, last_moment, is_stored, is_stop_reply, is_after_refused_overflow}
 use Rattle.sv_recorder.specs.Legal.{is_head, origins_of, IsNextStep, ticks_of, is_control}
 use Rattle.sv_recorder.specs.Kept.{Keeps}
 use Rattle.sv_recorder.specs.Plain.{IsPlain}
 use Rattle.sv_recorder.specs.Clock.{clock_of, is_start_kind, reply_of}
 use Rattle.sv_recorder.specs.Replies.{AreReplied}
-use Rattle.sv_recorder.specs.Writes.{Writes, made, outcome_if, IsPacketHere}
+use Rattle.sv_recorder.specs.Writes.{Writes, MovesBy, made, outcome_if, IsPacketHere}
 use Rattle.sv_recorder.specs.Book.{Holds, HoldsAs, Goes, head_if}
-use Rattle.sv_recorder.proofs.Entries.{stored_length, same_load, same_moment}
+use Rattle.sv_recorder.proofs.Entries.{stored_length, same_load, same_moment, write-moved}
+use Rattle.sv_recorder.proofs.Steps.{latest_first-push, last_moment-other}
 use Rattle.sv_recorder.proofs.Going.{goes-then, clock-goes}
 use Rattle.sv_recorder.proofs.Answering.{handled, synced, reply_here, no_stop, start_owes, stop_owes, event_owes}
 
-pub headed_one : (origin : Origin) (moment freed : ℕ) (outcome : Outcome) → filter is_head (origins_of (made origin moment freed outcome ∷ [])) ≡ head_if origin
-headed_one (Call writer step) moment freed outcome = refl
-headed_one Sync moment freed outcome = refl
-headed_one (Reply kind index) moment freed outcome = refl
-headed_one (Overflow count) moment freed outcome = refl
-headed_one (Command byte param) moment freed outcome = refl
-
 module _ {U : Type 0} (ring : U → List (List ℕ)) (size limit : U → ℕ) (sent : U → List ℕ) (freed : U → ℕ) (way : U → Way) where
-  pub goes-write : (old new : Book U) (origin : Origin) (block : List ℕ) (stored : Bool)
-      → new ≡ record old { items = new.items; up = new.up }
+  pub sync-goes : (old new : Book U) (stored : Bool)
+      → new ≡ record old { items = new.items; up = new.up } → size old.up ≡ old.load.now.ring
       → (ring new.up ≡ ring old.up) × (size new.up ≡ size old.up) × (limit new.up ≡ limit old.up) → vec_capacity new.items ≡ vec_capacity old.items
-      → (way old.up ≡ Still → (way new.up ≡ Still) × (freed new.up ≡ freed old.up))
-      → Writes (size old.up) old.items.items new.items.items (sent old.up) (sent new.up) (freed old.up) (freed new.up) origin old.moment block stored
-      → Goes ring size limit sent freed way (head_if origin) 1 (length block) old new
-  goes-write old new origin block stored written same capacity still w = record {
-    load = same_load old new written;
-    moment = same_moment old new written;
-    ring_same = same.0;
-    size_same = same.1;
-    limit_same = same.2;
-    capacity = capacity;
-    more = made origin old.moment (freed new.up) (outcome_if stored) ∷ [];
-    added = w.item;
-    headed = headed_one origin old.moment (freed new.up) (outcome_if stored);
-    few = omega arith;
-    short = stored_length (sent old.up) (sent new.up) block stored w.grown;
-    still_way = λ is. (still is).0;
-    still = λ is. ((still is).1, All-cons (λ (i : Item). i.freed ≡ freed old.up) (made origin old.moment (freed new.up) (outcome_if stored)) [] (still is).1 (All-nil (λ (i : Item). i.freed ≡ freed old.up)));
-  }
+      → Writes (size old.up) old.items.items new.items.items (sent old.up) (sent new.up) (freed old.up) (freed new.up) Sync old.moment (replicate 10 0) stored
+      → MovesBy size sent freed way old.up new.up (replicate 10 0) stored
+      → Goes ring size limit sent freed way [] 1 10 old new
+  sync-goes old new stored written fits same capacity w moves =
+      let i : Item = made Sync old.moment (freed new.up) (outcome_if stored) in
+      let latest : latest_first new.items.items ≡ i ∷ latest_first old.items.items = ap latest_first w.item ∙ latest_first-push old.items.items i in
+      record {
+        load = same_load old new written;
+        moment = same_moment old new written;
+        ring_same = same.0;
+        size_same = same.1;
+        limit_same = same.2;
+        capacity = capacity;
+        more = i ∷ [];
+        added = w.item;
+        headed = refl;
+        few = omega arith;
+        short = stored_length (sent old.up) (sent new.up) (replicate 10 0) stored w.grown;
+        moved = λ s. let m = write-moved ring size limit sent freed way old new Sync (replicate 10 0) stored written fits w moves s.stream refl refl in
+            (
+              record {
+                stream = m.0;
+                last = ap (λ (b : Book U). b.last) written ∙ s.last ∙ sym (ap last_moment latest ∙ last_moment-other (latest_first old.items.items) i (never (is_stored (outcome_if stored))));
+                ready = ap is_after_refused_overflow latest;
+              },
+              m.1,
+            );
+      }
+    where
+      never : (b : Bool) → (b && false) ≡ false
+      never true = refl
+      never false = refl
 
   pub sync-holds : (old new : Book U) (stored : Bool)
       → new ≡ record old { items = new.items; up = new.up } → size old.up ≡ old.load.now.ring → old.on ≡ true

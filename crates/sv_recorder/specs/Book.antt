@@ -1,10 +1,13 @@
 -- What a recorder works on, from one item to the next.
-use Rattle.std.specs.Prelude.{◌≡◌, ℕ, ◌+◌, ◌≤◌, Bool, List, [], ◌∷◌, ◌++◌, length, filter, All, vec_capacity, if◌then◌else◌}
-use Rattle.sv_ring.specs.Ring.{Way, Still}
+use Rattle.std.specs.Prelude.{◌≡◌, ℕ, ◌+◌, ◌≤◌, Bool, false, List, [], ◌∷◌, ◌++◌, length, filter, vec_capacity, if◌then◌else◌}
+use Rattle.sv_ring.specs.Ring.{Way}
 use Rattle.sv_recorder.specs.declared.journal.Origin.{Origin}
 use Rattle.sv_recorder.specs.declared.journal.Item.{Item}
 use Rattle.sv_recorder.specs.declared.book.Book.{Book}
+use Rattle.sv_recorder.specs.Freed.{AreFreed}
+use Rattle.sv_recorder.specs.Items.{latest_first, last_moment, is_after_refused_overflow}
 use Rattle.sv_recorder.specs.Kept.{Keeps}
+use Rattle.sv_recorder.specs.Stream.{stream_of}
 use Rattle.sv_recorder.specs.Legal.{is_head, origins_of}
 
 -- the book keeps a journal that owes these answers
@@ -18,6 +21,13 @@ HoldsAs sent freed on book owed = Keeps book.load.now book.items.items owed (sen
 -- the head of a group that an item is, if it is one
 abbrev pub head_if : Origin → List Origin
 head_if origin = if is_head origin then origin ∷ [] else []
+
+-- the bytes sent are the journal's, the last moment is that of its last stored packet, and no refused overflow waits
+-- for its packet
+pub record IsInStep {U : Type 0} (sent : U → List ℕ) (book : Book U) : Type 0 where
+  pub stream : sent book.up ≡ stream_of book.load.now book.items.items
+  pub last : book.last ≡ last_moment (latest_first book.items.items)
+  pub ready : is_after_refused_overflow (latest_first book.items.items) ≡ false
 
 -- from one state to a later one: these heads of groups, at most so many items and bytes more, and the rest as before
 pub record Goes {U : Type 0} (ring : U → List (List ℕ)) (size limit : U → ℕ) (sent : U → List ℕ) (freed : U → ℕ) (way : U → Way)
@@ -33,9 +43,9 @@ pub record Goes {U : Type 0} (ring : U → List (List ℕ)) (size limit : U → 
   pub headed : filter is_head (origins_of more) ≡ heads
   pub few : length more ≤ items
   pub short : length (sent new.up) ≤ length (sent old.up) + bytes
-  -- an end whose writes free nothing
-  pub still_way : way old.up ≡ Still → way new.up ≡ Still
-  pub still : way old.up ≡ Still → (freed new.up ≡ freed old.up) × All (λ i. i.freed ≡ freed old.up) more
+  -- what is known to be freed, where the book was in step with its ring
+  pub moved : IsInStep sent old →
+      IsInStep sent new × AreFreed old.load.now (latest_first old.items.items) more (way old.up) (freed old.up) (way new.up) (freed new.up)
 
 -- the last item is of this origin
 abbrev pub IsLast : Origin → List Item → Type 0

@@ -4,6 +4,7 @@ pub mod Stream
 pub mod Open
 pub mod Kept
 pub mod Section
+pub mod Freed
 pub mod Writes
 pub mod Formed
 pub mod Book

@@ -10,7 +10,8 @@ use Rattle.sv_recorder.specs.declared.journal.Origin.TheVariants.{Call, Reply}
 use Rattle.sv_recorder.specs.Items.{event_at, latest_first}
 use Rattle.sv_recorder.specs.Legal.{is_control, IsNextStep, ticks_of}
 use Rattle.sv_recorder.specs.Open.{IsDue}
-use Rattle.sv_ring.specs.Ring.{room_of}
+use Rattle.sv_recorder.specs.Freed.{wrote_if}
+use Rattle.sv_ring.specs.Ring.{Way, way_after, room_of, Moves}
 
 abbrev pub outcome_if : Bool → Outcome
 outcome_if true = outcomes.Stored
@@ -26,6 +27,12 @@ pub record Writes (size : ℕ) (items after : List Item) (sent sent_after : List
   pub grown : sent_after ≡ sent ++ (if stored then block else [])
   pub rises : freed ≤ freed_after
   pub within : freed_after ≤ length sent
+
+-- a write of a block moved the end of the ring by its way
+abbrev pub MovesBy : {U : Type 0} → (U → ℕ) → (U → List ℕ) → (U → ℕ) → (U → Way) → U → U → List ℕ → Bool → Type 0
+MovesBy size sent freed way old new block stored =
+    (way new ≡ way_after (way old))
+    × Moves (way old) (size old) (freed old) (freed new) (sent old) block (wrote_if stored (room_of (size old) (sent old) (freed new)))
 
 -- the spelling of an item's packet
 abbrev pub packet_block : Load → Origin → ℕ → ℕ → List ℕ

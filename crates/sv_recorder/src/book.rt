@@ -1,7 +1,7 @@
 //! The journal as it is written, one item at a time, beside the ring.
 ghost use Rattle.std.specs.Prelude.{◌≡◌, ℕ, ◌+◌, ◌<◌, ◌≤◌, ◌++◌, [], ◌∷◌, true, false, nat_lt, if◌then◌else◌, List, length, vec_capacity};
-ghost use Rattle.sv_ring.specs.Ring.{Still, room_of};
-ghost use Rattle.sv_recorder.specs.Writes.{Writes, made, outcome_if};
+ghost use Rattle.sv_ring.specs.Ring.{room_of};
+ghost use Rattle.sv_recorder.specs.Writes.{Writes, MovesBy, made, outcome_if};
 
 use crate::journal::{Item, Origin, Outcome};
 use sv_ring::{UpWriter, Wrote};
@@ -32,8 +32,7 @@ fn stores<U: UpWriter>(up: &mut U, block: &[u8]) -> bool
     ensures grown { U.sent up.new ≡ U.sent up.old ++ (if result then block.now else []) }
     ensures bounded { (U.freed up.old ≤ U.freed up.new)
         × (U.freed up.new ≤ length (U.sent up.old)) }
-    ensures still { U.way up.old ≡ Still → (U.way up.new ≡ Still)
-        × (U.freed up.new ≡ U.freed up.old) }
+    ensures moves { MovesBy U.size U.sent U.freed U.way up.old up.new block.now result }
 {
     match up.write_skip(block) {
         Wrote::Stored => true,
@@ -85,8 +84,7 @@ impl<'w, U: UpWriter + Drop> Book<'w, U> {
             × (U.size self.new.up ≡ U.size self.old.up)
             × (U.limit self.new.up ≡ U.limit self.old.up) }
         ensures capacity { vec_capacity self.new.items ≡ vec_capacity self.old.items }
-        ensures still { U.way self.old.up ≡ Still → (U.way self.new.up ≡ Still)
-            × (U.freed self.new.up ≡ U.freed self.old.up) }
+        ensures moves { MovesBy U.size U.sent U.freed U.way self.old.up self.new.up block.now result }
     {
         let stored = stores(&mut self.up, block);
         self.note(origin, outcome_of(stored));

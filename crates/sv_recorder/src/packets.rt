@@ -3,7 +3,7 @@ ghost use Rattle.std.specs.Prelude.{◌≡◌, ℕ, ◌+◌, ◌-◌, ◌<◌, �
 ghost use Rattle.sv_recorder.specs.Formed.{IsFormed, packet_bytes};
 ghost use Rattle.sv_recorder.specs.Items.{is_stop_reply};
 ghost use Rattle.sv_recorder.specs.Plain.{IsPlain};
-ghost use Rattle.sv_recorder.specs.Writes.{IsPacketHere, made};
+ghost use Rattle.sv_recorder.specs.Writes.{IsPacketHere, is_telling, made};
 
 use crate::book::Book;
 use crate::forming::form;
@@ -32,6 +32,7 @@ impl<'w, U: UpWriter + Drop> Book<'w, U> {
 
     /// Records a packet while nothing is pending.
     fn write_plain(&mut self, origin: Origin)
+        requires telling { is_telling origin ≡ true }
         requires formed { IsFormed self.old.load.now origin }
         requires plain { IsPlain self.old.load.now }
         requires ring { U.size self.old.up ≡ self.old.load.now.ring }
@@ -59,6 +60,7 @@ impl<'w, U: UpWriter + Drop> Book<'w, U> {
     /// Records a packet while packets are pending: behind an overflow with their count, and refused
     /// with it where that is refused.
     fn write_behind(&mut self, origin: Origin)
+        requires telling { is_telling origin ≡ true }
         requires formed { IsFormed self.old.load.now origin }
         requires plain { IsPlain self.old.load.now }
         requires ring { U.size self.old.up ≡ self.old.load.now.ring }
@@ -95,6 +97,7 @@ impl<'w, U: UpWriter + Drop> Book<'w, U> {
 
     /// Records a packet: ignores it while the recorder is off.
     pub fn packet(&mut self, origin: Origin)
+        requires telling { is_telling origin ≡ true }
         requires formed { IsFormed self.old.load.now origin }
         requires plain { IsPlain self.old.load.now }
         requires ring { U.size self.old.up ≡ self.old.load.now.ring }

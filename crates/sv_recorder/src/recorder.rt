@@ -1,9 +1,9 @@
-ghost use Rattle.std.specs.Prelude.{◌≡◌, ℕ, ◌+◌, ◌-◌, ◌<◌, ◌≤◌, ◌↔◌, [], ◌++◌, None, IsNone, IsSome, IfSome, IfNone, IfOk, All, count_by, length, min, take, drop};
-ghost use Rattle.sv_ring.specs.Ring.{Still};
+ghost use Rattle.std.specs.Prelude.{◌≡◌, ℕ, ◌+◌, ◌-◌, ◌<◌, ◌≤◌, ◌↔◌, [], ◌++◌, None, IsNone, IsSome, IfSome, IfNone, IfOk, count_by, length, min, take, drop};
 ghost use Rattle.sv_workload.specs.Load.{script_of};
 ghost use Rattle.sv_workload.specs.Need.{need_bytes};
 ghost use Rattle.sv_recorder.specs.Answer.{IsTold};
 ghost use Rattle.sv_recorder.specs.Clock.{clock_of};
+ghost use Rattle.sv_recorder.specs.Freed.{AreFreed};
 ghost use Rattle.sv_recorder.specs.Items.{latest_first, is_call_of, is_on, pending_at};
 ghost use Rattle.sv_recorder.specs.Legal.{IsLegal};
 ghost use Rattle.sv_recorder.specs.Plain.{IsPlain};
@@ -146,13 +146,12 @@ impl<'w, U: UpWriter + Drop> Recorder<'w, U> {
         ensures same { (self.new.load ≡ self.old.load) × (self.new.ring ≡ self.old.ring)
             × (self.new.size ≡ self.old.size) × (self.new.limit ≡ self.old.limit) }
 
-        // The group of the step is added; where writes free nothing, each of its items has what was
-        // freed before it.
+        // The group of the step is added, and what is known to be freed moves over its items by the
+        // way of the ring.
         ensures section { IfSome result (λ _.
             (s : IsSection self.old.items self.new.items writer None)
-            × (self.old.way ≡ Still →
-            (self.new.way ≡ Still) × (self.new.freed ≡ self.old.freed)
-            × All (λ i. i.freed ≡ self.old.freed) s.more)) }
+            × AreFreed self.old.load (latest_first self.old.items) s.more self.old.way self.old.freed
+            self.new.way self.new.freed) }
         ensures told { IfSome result
             (IsTold self.old.load self.new.items writer
             (count_by (λ i. is_call_of writer i.origin) self.old.items)) }

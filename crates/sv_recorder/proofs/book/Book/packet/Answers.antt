@@ -1,6 +1,13 @@
+use Rattle.std.proofs.Common.{refl, arith}
 use Rattle.std.specs.Prelude.{not}
-use Rattle.sv_recorder.specs.Items.{is_stop_reply}
-use Rattle.sv_recorder.proofs.Entries.{ignored-holds, and-not}
+use Rattle.sv_recorder.specs.declared.journal.Outcome.TheVariants.{Ignored}
+use Rattle.sv_recorder.specs.Book.{head_if}
+use Rattle.sv_recorder.specs.Formed.{packet_bytes}
+use Rattle.sv_recorder.specs.Items.{latest_first, is_stop_reply}
+use Rattle.sv_recorder.proofs.Entries.{ignored-holds, and-not, headed_one}
+use Rattle.sv_recorder.proofs.Freed.{ignored_unwritten}
+use Rattle.sv_recorder.proofs.Going.{goes-note, goes-less}
+use Rattle.sv_recorder.proofs.Recorded.{not_overflow}
 use Rattle.sv_recorder.proofs.book.Book.packet.Goals as goal
 
 pub returns-then-not-self-clause-kept : goal.returns-then-not-self-clause-kept
@@ -15,3 +22,11 @@ returns-then-self-gt0-clause-kept g c = λ owed rest k p.
 pub returns-else-self-gt0-clause-kept : goal.returns-else-self-gt0-clause-kept
 returns-else-self-gt0-clause-kept g c = λ owed rest k p.
     rw (and-not c.args.self.now.on (not (is_stop_reply c.args.origin)) c.if-not-self.false) (c.write_plain.ensures.kept owed rest k p)
+
+pub returns-then-not-self-clause-goes : goal.returns-then-not-self-clause-goes
+returns-then-not-self-clause-goes g c =
+    let u = g.U.UpWriter in
+    let old = c.args.self.now in
+    let noted = goes-note u.ring u.size u.limit u.sent u.freed u.way old c.note.new.self c.args.origin Ignored c.note.ensures.rest c.note.ensures.capacity c.note.ensures.item (headed_one c.args.origin old.moment (u.freed old.up) Ignored)
+    refl (not_overflow c.args.origin c.requires.telling) (ignored_unwritten (latest_first old.items.items) c.args.origin old.moment (u.freed old.up) c.requires.telling) in
+    goes-less u.ring u.size u.limit u.sent u.freed u.way old c.note.new.self (head_if c.args.origin) 1 2 0 (packet_bytes old.load.now c.args.origin) noted (omega arith) (omega arith)

@@ -1,11 +1,7 @@
-use Rattle.std.proofs.Common.{◌≡◌, ◌∙◌, ◌≤◌, ◌+◌, ℕ, List, length, subst, sym}
+use Rattle.std.proofs.Common.{◌∙◌, ◌≤◌, ◌+◌, ℕ, length, subst, sym}
 use Rattle.sv_recorder.specs.Formed.{block_bytes}
-use Rattle.sv_recorder.proofs.Entries.{refused-holds, behind-holds, behind-goes, room_behind, same_load, same_moment}
+use Rattle.sv_recorder.proofs.Entries.{refused-holds, behind-holds, behind-goes, refused-goes, as_long, room_behind, same_load, same_moment}
 use Rattle.sv_recorder.proofs.book.Book.write_behind.Goals as goal
-
--- a block is as long as the form says
-as_long : (slice form : List ℕ) (most : ℕ) → slice ≡ form → length form ≤ most → length slice ≤ most
-as_long slice form most same short = subst (λ (b : List ℕ). length b ≤ most) (sym same) short
 
 pub returns-then-not-write-clause-kept : goal.returns-then-not-write-clause-kept
 returns-then-not-write-clause-kept g c =
@@ -35,7 +31,17 @@ pub returns-clause-goes : goal.returns-clause-goes
 returns-clause-goes g c =
     let u = g.U.UpWriter in
     let w = rw c.if-not-write.false at c.write.ensures.writes in
-    behind-goes u.ring u.size u.limit u.sent u.freed u.way c.args.self.now c.write.new.self c.write-stored.new.self c.settle.new.self c.args.origin c.deref.result.now c.deref-2.result.now c.write-stored.result _ _
-    c.write.ensures.rest c.write-stored.ensures.rest c.settle.ensures c.write.ensures.same c.write-stored.ensures.same c.write.ensures.capacity c.write-stored.ensures.capacity c.write.ensures.still c.write-stored.ensures.still w c.write-stored.ensures.writes
+    let m = rw c.if-not-write.false at c.write.ensures.moves in
+    behind-goes u.ring u.size u.limit u.sent u.freed u.way c.args.self.now c.write.new.self c.write-stored.new.self c.settle.new.self c.args.origin c.deref.result.now c.deref-2.result.now c.write-stored.result _
+    c.write.ensures.rest c.write-stored.ensures.rest c.settle.ensures c.requires.ring c.write.ensures.same c.write-stored.ensures.same c.write.ensures.capacity c.write-stored.ensures.capacity w c.write-stored.ensures.writes m c.write-stored.ensures.moves
+    (c.deref.ensures.0 ∙ c.form-block.ensures.block)
+    (c.deref-2.ensures.0 ∙ (rw (same_load c.args.self.now c.write.new.self c.write.ensures.rest, same_moment c.args.self.now c.write.new.self c.write.ensures.rest) at c.form-block-2.ensures.block))
     (as_long c.deref.result.now _ 11 c.deref.ensures.0 c.form-block.ensures.short)
-    (as_long c.deref-2.result.now _ (block_bytes c.args.self.now.load.now c.args.origin) c.deref-2.ensures.0 (rw (same_load c.args.self.now c.write.new.self c.write.ensures.rest) at c.form-block-2.ensures.short)) c.requires.formed
+    (as_long c.deref-2.result.now _ (block_bytes c.args.self.now.load.now c.args.origin) c.deref-2.ensures.0 (rw (same_load c.args.self.now c.write.new.self c.write.ensures.rest) at c.form-block-2.ensures.short)) c.requires.telling c.requires.formed
+
+pub returns-then-not-write-clause-goes : goal.returns-then-not-write-clause-goes
+returns-then-not-write-clause-goes g c =
+    let u = g.U.UpWriter in
+    refused-goes u.ring u.size u.limit u.sent u.freed u.way c.args.self.now c.write.new.self c.note.new.self c.args.origin c.deref.result.now _
+    c.write.ensures.rest c.note.ensures.rest c.requires.ring c.write.ensures.same c.write.ensures.capacity c.note.ensures.capacity (rw c.if-not-write.true at c.write.ensures.writes) (rw c.if-not-write.true at c.write.ensures.moves)
+    (c.deref.ensures.0 ∙ c.form-block.ensures.block) c.note.ensures.item c.requires.telling

@@ -1,5 +1,5 @@
 use Rattle.std.proofs.Common.{◌∙◌}
-use Rattle.sv_recorder.proofs.Entries.{plain-holds}
+use Rattle.sv_recorder.proofs.Entries.{plain-holds, plain-goes, as_long}
 use Rattle.sv_recorder.proofs.book.Book.write_plain.Goals as goal
 
 pub returns-clause-kept : goal.returns-clause-kept
@@ -7,3 +7,10 @@ returns-clause-kept g c =
     let u = g.U.UpWriter in
     plain-holds u.ring u.size u.limit u.sent u.freed u.way c.args.self.now c.write-stored.new.self c.settle.new.self c.args.origin c.deref.result.now c.write-stored.result
     c.write-stored.ensures.rest c.settle.ensures c.requires.ring c.requires.on c.requires.none c.write-stored.ensures.writes (c.deref.ensures.0 ∙ c.form-block.ensures.block)
+
+pub returns-clause-goes : goal.returns-clause-goes
+returns-clause-goes g c =
+    let u = g.U.UpWriter in
+    plain-goes u.ring u.size u.limit u.sent u.freed u.way c.args.self.now c.write-stored.new.self c.settle.new.self c.args.origin c.deref.result.now c.write-stored.result
+    c.write-stored.ensures.rest c.settle.ensures c.requires.ring c.write-stored.ensures.same c.write-stored.ensures.capacity c.write-stored.ensures.writes c.write-stored.ensures.moves
+    (c.deref.ensures.0 ∙ c.form-block.ensures.block) (as_long c.deref.result.now _ _ c.deref.ensures.0 c.form-block.ensures.short) c.requires.telling c.requires.formed

@@ -59,14 +59,14 @@ needs_at f steps place step is = ap (sum_by f) (drop_at steps place step is) ∙
 
 module _ {U : Type 0} (ring : U → List (List ℕ)) (size limit : U → ℕ) (sent : U → List ℕ) (freed : U → ℕ) (way : U → Way) where
   abbrev Keeping : Book U → ℕ → Type 0
-  Keeping book place = IsRecorder book.load.now book.items.items (sent book.up) (freed book.up) (size book.up) (limit book.up) book.on book.pending book.last book.moment place (vec_capacity book.items)
+  Keeping book place = IsRecorder book.load.now book.journal.items (sent book.up) (freed book.up) (size book.up) (limit book.up) book.on book.pending book.last book.moment place (vec_capacity book.journal)
 
-  pub next_step : (old : Book U) (place : ℕ) (step : Step) → Keeping old place → step_of old.load.now 0 place ≡ Some step → IsNextStep old.load.now (latest_first old.items.items) (Call 0 place)
-  next_step old place step r is = (r.place_is ∙ sym (count_latest (λ i. is_call_of 0 i.origin) old.items.items), place_within (script_of old.load.now 0) place step is)
+  pub next_step : (old : Book U) (place : ℕ) (step : Step) → Keeping old place → step_of old.load.now 0 place ≡ Some step → IsNextStep old.load.now (latest_first old.journal.items) (Call 0 place)
+  next_step old place step r is = (r.place_is ∙ sym (count_latest (λ i. is_call_of 0 i.origin) old.journal.items), place_within (script_of old.load.now 0) place step is)
 
   -- a step was taken
   pub taken : (old new : Book U) (place : ℕ) (step : Step) → Keeping old place → step_of old.load.now 0 place ≡ Some step
-      → (Holds sent freed old [] → IsNextStep old.load.now (latest_first old.items.items) (Call 0 place) → old.moment ≡ clock_of old.load.now old.items.items → Holds sent freed new [])
+      → (Holds sent freed old [] → IsNextStep old.load.now (latest_first old.journal.items) (Call 0 place) → old.moment ≡ clock_of old.load.now old.journal.items → Holds sent freed new [])
       → Goes ring size limit sent freed way (Call 0 place ∷ []) (step_items step) (step_bytes step) (record old { moment = old.moment + step.advance }) new
       → new.moment ≡ old.moment + step.advance → new.last ≤ new.moment
       → Keeping new (place + 1)
@@ -76,18 +76,18 @@ module _ {U : Type 0} (ring : U → List (List ℕ)) (size limit : U → ℕ) (s
       let items = needs_at step_items script place step is in
       let bytes = needs_at step_bytes script place step is in
       let ticks = needs_at (λ (s : Step). s.advance) script place step is in
-      let longer : length new.items.items ≡ length old.items.items + length goes.more = ap length goes.added ∙ length-append old.items.items goes.more in
+      let longer : length new.journal.items ≡ length old.journal.items + length goes.more = ap length goes.added ∙ length-append old.journal.items goes.more in
       let clock = clock-goes ring size limit sent freed way (record old { moment = old.moment + step.advance }) new (Call 0 place ∷ []) (step_items step) (step_bytes step) goes in
       let tick = ticks_at load 0 place step is in
-      let calls : count_by (λ i. is_call_of 0 i.origin) new.items.items ≡ count_by (λ i. is_call_of 0 i.origin) old.items.items + 1 =
-      ap (count_by (λ i. is_call_of 0 i.origin)) goes.added ∙ sum_by-append (λ (i : Item). cond (is_call_of 0 i.origin) 1 0) old.items.items goes.more
-      ∙ ap (λ (n : ℕ). count_by (λ i. is_call_of 0 i.origin) old.items.items + n) (calls_heads 0 goes.more ∙ ap (count_by (is_call_of 0)) goes.headed) in
-      let whole : IsRecorder load new.items.items (sent new.up) (freed new.up) (size new.up) (limit new.up) new.on new.pending new.last new.moment (place + 1) (vec_capacity new.items) = record {
+      let calls : count_by (λ i. is_call_of 0 i.origin) new.journal.items ≡ count_by (λ i. is_call_of 0 i.origin) old.journal.items + 1 =
+      ap (count_by (λ i. is_call_of 0 i.origin)) goes.added ∙ sum_by-append (λ (i : Item). cond (is_call_of 0 i.origin) 1 0) old.journal.items goes.more
+      ∙ ap (λ (n : ℕ). count_by (λ i. is_call_of 0 i.origin) old.journal.items + n) (calls_heads 0 goes.more ∙ ap (count_by (is_call_of 0)) goes.headed) in
+      let whole : IsRecorder load new.journal.items (sent new.up) (freed new.up) (size new.up) (limit new.up) new.on new.pending new.last new.moment (place + 1) (vec_capacity new.journal) = record {
         plain = r.plain;
         limits = r.limits;
-        held = subst (λ (l : Load). Keeps l new.items.items [] (sent new.up) (freed new.up) new.on new.pending new.last) goes.load (kept r.held (next_step old place step r is) r.clock);
+        held = subst (λ (l : Load). Keeps l new.journal.items [] (sent new.up) (freed new.up) new.on new.pending new.last) goes.load (kept r.held (next_step old place step r is) r.clock);
         ring = goes.size_same ∙ r.ring;
-        clock = moment ∙ clock_is old.moment step.advance (ticks_of load (Call 0 place)) (clock_of load old.items.items) r.clock tick ∙ sym clock ∙ ap (λ (l : Load). clock_of l new.items.items) goes.load;
+        clock = moment ∙ clock_is old.moment step.advance (ticks_of load (Call 0 place)) (clock_of load old.journal.items) r.clock tick ∙ sym clock ∙ ap (λ (l : Load). clock_of l new.journal.items) goes.load;
         later = later;
         place_is = omega (arith, r.place_is, calls);
         within = omega (arith, place_within script place step is);
@@ -96,7 +96,7 @@ module _ {U : Type 0} (ring : U → List (List ℕ)) (size limit : U → ℕ) (s
         bytes = omega (arith, r.bytes, bytes, goes.short, goes.limit_same);
         ticks = omega (arith, r.ticks, ticks, moment);
       } in
-      subst (λ (l : Load). IsRecorder l new.items.items (sent new.up) (freed new.up) (size new.up) (limit new.up) new.on new.pending new.last new.moment (place + 1) (vec_capacity new.items)) (sym goes.load) whole
+      subst (λ (l : Load). IsRecorder l new.journal.items (sent new.up) (freed new.up) (size new.up) (limit new.up) new.on new.pending new.last new.moment (place + 1) (vec_capacity new.journal)) (sym goes.load) whole
     where
       clock_is : (m a t k : ℕ) → m ≡ k → t ≡ a → m + a ≡ k + (0 + t)
       clock_is m a t k p q = omega (arith, p, q)
@@ -104,10 +104,10 @@ module _ {U : Type 0} (ring : U → List (List ℕ)) (size limit : U → ℕ) (s
   -- what the section added
   pub section_of : (old new : Book U) (place : ℕ) (step : Step) → Keeping old place
       → Goes ring size limit sent freed way (Call 0 place ∷ []) (step_items step) (step_bytes step) (record old { moment = old.moment + step.advance }) new
-      → (s : IsSection old.items.items new.items.items 0 None) × AreFreed old.load.now (latest_first old.items.items) s.more (way old.up) (freed old.up) (way new.up) (freed new.up)
+      → (s : IsSection old.journal.items new.journal.items 0 None) × AreFreed old.load.now (latest_first old.journal.items) s.more (way old.up) (freed old.up) (way new.up) (freed new.up)
   section_of old new place step r goes = (
     record { more = goes.more; longer = goes.added; heads = goes.headed ∙ ap (λ (n : ℕ). Call 0 n ∷ []) r.place_is },
-    (goes.moved (record { stream = r.held.sent_is; last = r.held.last_is; ready = after_refused-fresh (latest_first old.items.items) r.held.opened.ends })).1,
+    (goes.moved (record { stream = r.held.sent_is; last = r.held.last_is; ready = after_refused-fresh (latest_first old.journal.items) r.held.opened.ends })).1,
   )
 
 -- ONE WRITER'S NEED

@@ -88,44 +88,44 @@ last_again earlier i moment true outcome at other before = last_moment-stored ea
 last_again earlier i moment false outcome at other before = last_moment-other earlier i (ap (λ (b : Bool). b && not (is_sync i.origin)) (ap is_stored outcome)) ∙ before
 
 -- a write leaves the workload and the moment
-pub same_load : {U : Type 0} (old mid : Book U) → mid ≡ record old { items = mid.items; up = mid.up } → mid.load.now ≡ old.load.now
+pub same_load : {U : Type 0} (old mid : Book U) → mid ≡ record old { journal = mid.journal; up = mid.up } → mid.load.now ≡ old.load.now
 same_load {U} old mid written = ap (λ (b : Book U). b.load.now) written
 
-pub same_moment : {U : Type 0} (old mid : Book U) → mid ≡ record old { items = mid.items; up = mid.up } → mid.moment ≡ old.moment
+pub same_moment : {U : Type 0} (old mid : Book U) → mid ≡ record old { journal = mid.journal; up = mid.up } → mid.moment ≡ old.moment
 same_moment {U} old mid written = ap (λ (b : Book U). b.moment) written
 
 module _ {U : Type 0} (ring : U → List (List ℕ)) (size limit : U → ℕ) (sent : U → List ℕ) (freed : U → ℕ) (way : U → Way) where
   -- while the recorder is off
-  pub ignored-holds : (old new : Book U) (origin : Origin) → new ≡ record old { items = new.items } → old.on ≡ false
-      → new.items.items ≡ old.items.items ++ made origin old.moment (freed old.up) Ignored ∷ []
-      → (owed rest : List Origin) → Holds sent freed old owed → IsPacketHere old.load.now old.items.items owed origin old.moment rest
+  pub ignored-holds : (old new : Book U) (origin : Origin) → new ≡ record old { journal = new.journal } → old.on ≡ false
+      → new.journal.items ≡ old.journal.items ++ made origin old.moment (freed old.up) Ignored ∷ []
+      → (owed rest : List Origin) → Holds sent freed old owed → IsPacketHere old.load.now old.journal.items owed origin old.moment rest
       → HoldsAs sent freed (old.on && not (is_stop_reply origin)) new rest
   ignored-holds old new origin changed off item owed rest k p =
-      let k2 : Keeps old.load.now old.items.items owed (sent old.up) (freed old.up) false old.pending old.last = subst (λ (b : Bool). Keeps old.load.now old.items.items owed (sent old.up) (freed old.up) b old.pending old.last) off k in
-      let kept = packet-off old.load.now old.items.items new.items.items owed rest (sent old.up) (freed old.up) old.pending old.last origin old.moment k2 p item in
+      let k2 : Keeps old.load.now old.journal.items owed (sent old.up) (freed old.up) false old.pending old.last = subst (λ (b : Bool). Keeps old.load.now old.journal.items owed (sent old.up) (freed old.up) b old.pending old.last) off k in
+      let kept = packet-off old.load.now old.journal.items new.journal.items owed rest (sent old.up) (freed old.up) old.pending old.last origin old.moment k2 p item in
       subst (HoldsAs' rest (old.on && not (is_stop_reply origin))) (sym changed)
-      (subst (λ (b : Bool). Keeps old.load.now new.items.items rest (sent old.up) (freed old.up) b old.pending old.last) (sym (ap (λ (b : Bool). b && not (is_stop_reply origin)) off)) kept)
+      (subst (λ (b : Bool). Keeps old.load.now new.journal.items rest (sent old.up) (freed old.up) b old.pending old.last) (sym (ap (λ (b : Bool). b && not (is_stop_reply origin)) off)) kept)
     where
       HoldsAs' : List Origin → Bool → Book U → Type 0
       HoldsAs' rest on book = HoldsAs sent freed on book rest
 
   -- written while nothing is pending
   pub plain-holds : (old mid new : Book U) (origin : Origin) (block : List ℕ) (stored : Bool)
-      → mid ≡ record old { items = mid.items; up = mid.up }
+      → mid ≡ record old { journal = mid.journal; up = mid.up }
       → new ≡ record mid { pending = if stored then 0 else 1; last = if stored then mid.moment else mid.last }
       → size old.up ≡ old.load.now.ring → old.on ≡ true → old.pending ≡ 0
-      → Writes (size old.up) old.items.items mid.items.items (sent old.up) (sent mid.up) (freed old.up) (freed mid.up) origin old.moment block stored
+      → Writes (size old.up) old.journal.items mid.journal.items (sent old.up) (sent mid.up) (freed old.up) (freed mid.up) origin old.moment block stored
       → block ≡ packet_block old.load.now origin old.moment old.last
-      → (owed rest : List Origin) → Holds sent freed old owed → IsPacketHere old.load.now old.items.items owed origin old.moment rest
+      → (owed rest : List Origin) → Holds sent freed old owed → IsPacketHere old.load.now old.journal.items owed origin old.moment rest
       → HoldsAs sent freed (not (is_stop_reply origin)) new rest
   plain-holds old mid new origin block stored written settled fits on none writes formed owed rest k p =
-      let w : Writes old.load.now.ring old.items.items mid.items.items (sent old.up) (sent mid.up) (freed old.up) (freed mid.up) origin old.moment (packet_block old.load.now origin old.moment old.last) stored =
-      subst (λ (n : ℕ). Writes n old.items.items mid.items.items (sent old.up) (sent mid.up) (freed old.up) (freed mid.up) origin old.moment (packet_block old.load.now origin old.moment old.last) stored) fits
-      (subst (λ (b : List ℕ). Writes (size old.up) old.items.items mid.items.items (sent old.up) (sent mid.up) (freed old.up) (freed mid.up) origin old.moment b stored) formed writes) in
-      let k2 : Keeps old.load.now old.items.items owed (sent old.up) (freed old.up) true 0 old.last =
-      subst (λ (b : Bool). Keeps old.load.now old.items.items owed (sent old.up) (freed old.up) b 0 old.last) on
-      (subst (λ (n : ℕ). Keeps old.load.now old.items.items owed (sent old.up) (freed old.up) old.on n old.last) none k) in
-      let kept = packet-plain old.load.now old.items.items mid.items.items owed rest (sent old.up) (sent mid.up) (freed old.up) (freed mid.up) old.last origin old.moment stored k2 p w in
+      let w : Writes old.load.now.ring old.journal.items mid.journal.items (sent old.up) (sent mid.up) (freed old.up) (freed mid.up) origin old.moment (packet_block old.load.now origin old.moment old.last) stored =
+      subst (λ (n : ℕ). Writes n old.journal.items mid.journal.items (sent old.up) (sent mid.up) (freed old.up) (freed mid.up) origin old.moment (packet_block old.load.now origin old.moment old.last) stored) fits
+      (subst (λ (b : List ℕ). Writes (size old.up) old.journal.items mid.journal.items (sent old.up) (sent mid.up) (freed old.up) (freed mid.up) origin old.moment b stored) formed writes) in
+      let k2 : Keeps old.load.now old.journal.items owed (sent old.up) (freed old.up) true 0 old.last =
+      subst (λ (b : Bool). Keeps old.load.now old.journal.items owed (sent old.up) (freed old.up) b 0 old.last) on
+      (subst (λ (n : ℕ). Keeps old.load.now old.journal.items owed (sent old.up) (freed old.up) old.on n old.last) none k) in
+      let kept = packet-plain old.load.now old.journal.items mid.journal.items owed rest (sent old.up) (sent mid.up) (freed old.up) (freed mid.up) old.last origin old.moment stored k2 p w in
       let same_load : mid.load.now ≡ old.load.now = ap (λ (b : Book U). b.load.now) written in
       let same_moment : mid.moment ≡ old.moment = ap (λ (b : Book U). b.moment) written in
       let same_last : mid.last ≡ old.last = ap (λ (b : Book U). b.last) written in
@@ -133,58 +133,58 @@ module _ {U : Type 0} (ring : U → List (List ℕ)) (size limit : U → ℕ) (s
 
   -- refused with the overflow before it
   pub refused-holds : (old mid new : Book U) (origin : Origin) (block : List ℕ)
-      → mid ≡ record old { items = mid.items; up = mid.up }
-      → new ≡ record mid { items = new.items }
+      → mid ≡ record old { journal = mid.journal; up = mid.up }
+      → new ≡ record mid { journal = new.journal }
       → size old.up ≡ old.load.now.ring → old.on ≡ true → 0 < old.pending
-      → Writes (size old.up) old.items.items mid.items.items (sent old.up) (sent mid.up) (freed old.up) (freed mid.up) (Overflow old.pending) old.moment block false
+      → Writes (size old.up) old.journal.items mid.journal.items (sent old.up) (sent mid.up) (freed old.up) (freed mid.up) (Overflow old.pending) old.moment block false
       → block ≡ packet_block old.load.now (Overflow old.pending) old.moment old.last
-      → new.items.items ≡ mid.items.items ++ made origin mid.moment (freed mid.up) Refused ∷ []
-      → (owed rest : List Origin) → Holds sent freed old owed → IsPacketHere old.load.now old.items.items owed origin old.moment rest
-      → Keeps new.load.now new.items.items rest (sent new.up) (freed new.up) (not (is_stop_reply origin)) (old.pending + 1) new.last
+      → new.journal.items ≡ mid.journal.items ++ made origin mid.moment (freed mid.up) Refused ∷ []
+      → (owed rest : List Origin) → Holds sent freed old owed → IsPacketHere old.load.now old.journal.items owed origin old.moment rest
+      → Keeps new.load.now new.journal.items rest (sent new.up) (freed new.up) (not (is_stop_reply origin)) (old.pending + 1) new.last
   refused-holds old mid new origin block written noted fits on some writes formed item owed rest k p =
-      let w : Writes old.load.now.ring old.items.items mid.items.items (sent old.up) (sent mid.up) (freed old.up) (freed mid.up) (Overflow old.pending) old.moment (packet_block old.load.now (Overflow old.pending) old.moment old.last) false =
-      subst (λ (n : ℕ). Writes n old.items.items mid.items.items (sent old.up) (sent mid.up) (freed old.up) (freed mid.up) (Overflow old.pending) old.moment (packet_block old.load.now (Overflow old.pending) old.moment old.last) false) fits
-      (subst (λ (b : List ℕ). Writes (size old.up) old.items.items mid.items.items (sent old.up) (sent mid.up) (freed old.up) (freed mid.up) (Overflow old.pending) old.moment b false) formed writes) in
-      let k2 : Keeps old.load.now old.items.items owed (sent old.up) (freed old.up) true old.pending old.last =
-      subst (λ (b : Bool). Keeps old.load.now old.items.items owed (sent old.up) (freed old.up) b old.pending old.last) on k in
+      let w : Writes old.load.now.ring old.journal.items mid.journal.items (sent old.up) (sent mid.up) (freed old.up) (freed mid.up) (Overflow old.pending) old.moment (packet_block old.load.now (Overflow old.pending) old.moment old.last) false =
+      subst (λ (n : ℕ). Writes n old.journal.items mid.journal.items (sent old.up) (sent mid.up) (freed old.up) (freed mid.up) (Overflow old.pending) old.moment (packet_block old.load.now (Overflow old.pending) old.moment old.last) false) fits
+      (subst (λ (b : List ℕ). Writes (size old.up) old.journal.items mid.journal.items (sent old.up) (sent mid.up) (freed old.up) (freed mid.up) (Overflow old.pending) old.moment b false) formed writes) in
+      let k2 : Keeps old.load.now old.journal.items owed (sent old.up) (freed old.up) true old.pending old.last =
+      subst (λ (b : Bool). Keeps old.load.now old.journal.items owed (sent old.up) (freed old.up) b old.pending old.last) on k in
       let same_moment : mid.moment ≡ old.moment = ap (λ (b : Book U). b.moment) written in
       let same_load : new.load.now ≡ old.load.now = ap (λ (b : Book U). b.load.now) noted ∙ ap (λ (b : Book U). b.load.now) written in
       let same_last : new.last ≡ old.last = ap (λ (b : Book U). b.last) noted ∙ ap (λ (b : Book U). b.last) written in
       let same_up : new.up ≡ mid.up = ap (λ (b : Book U). b.up) noted in
-      let grown : new.items.items ≡ mid.items.items ++ made origin old.moment (freed mid.up) Refused ∷ [] = item ∙ ap (λ (m : ℕ). mid.items.items ++ made origin m (freed mid.up) Refused ∷ []) same_moment in
-      let kept = packet-behind_refused old.load.now old.items.items mid.items.items new.items.items owed rest (sent old.up) (sent mid.up) (freed old.up) (freed mid.up) old.pending old.last origin old.moment k2 some p w grown in
+      let grown : new.journal.items ≡ mid.journal.items ++ made origin old.moment (freed mid.up) Refused ∷ [] = item ∙ ap (λ (m : ℕ). mid.journal.items ++ made origin m (freed mid.up) Refused ∷ []) same_moment in
+      let kept = packet-behind_refused old.load.now old.journal.items mid.journal.items new.journal.items owed rest (sent old.up) (sent mid.up) (freed old.up) (freed mid.up) old.pending old.last origin old.moment k2 some p w grown in
       let one : old.pending + 1 ≡ 1 + old.pending = omega arith in
       rw (same_load, same_last, same_up, one) kept
 
   -- written behind a stored overflow
   pub behind-holds : (old first second new : Book U) (origin : Origin) (overflow block : List ℕ) (stored : Bool)
-      → first ≡ record old { items = first.items; up = first.up }
-      → second ≡ record first { items = second.items; up = second.up }
+      → first ≡ record old { journal = first.journal; up = first.up }
+      → second ≡ record first { journal = second.journal; up = second.up }
       → new ≡ record second { pending = if stored then 0 else 1; last = if stored then second.moment else second.moment }
       → size old.up ≡ old.load.now.ring → size first.up ≡ size old.up → old.on ≡ true → 0 < old.pending
-      → Writes (size old.up) old.items.items first.items.items (sent old.up) (sent first.up) (freed old.up) (freed first.up) (Overflow old.pending) old.moment overflow true
+      → Writes (size old.up) old.journal.items first.journal.items (sent old.up) (sent first.up) (freed old.up) (freed first.up) (Overflow old.pending) old.moment overflow true
       → overflow ≡ packet_block old.load.now (Overflow old.pending) old.moment old.last
-      → Writes (size first.up) first.items.items second.items.items (sent first.up) (sent second.up) (freed first.up) (freed second.up) origin first.moment block stored
+      → Writes (size first.up) first.journal.items second.journal.items (sent first.up) (sent second.up) (freed first.up) (freed second.up) origin first.moment block stored
       → block ≡ packet_block old.load.now origin old.moment old.moment
-      → (owed rest : List Origin) → Holds sent freed old owed → IsPacketHere old.load.now old.items.items owed origin old.moment rest
+      → (owed rest : List Origin) → Holds sent freed old owed → IsPacketHere old.load.now old.journal.items owed origin old.moment rest
       → HoldsAs sent freed (not (is_stop_reply origin)) new rest
   behind-holds old first second new origin overflow block stored written again settled fits same_size on some writes formed writes2 formed2 owed rest k p =
-      let v : Writes old.load.now.ring old.items.items first.items.items (sent old.up) (sent first.up) (freed old.up) (freed first.up) (Overflow old.pending) old.moment (packet_block old.load.now (Overflow old.pending) old.moment old.last) true =
-      subst (λ (n : ℕ). Writes n old.items.items first.items.items (sent old.up) (sent first.up) (freed old.up) (freed first.up) (Overflow old.pending) old.moment (packet_block old.load.now (Overflow old.pending) old.moment old.last) true) fits
-      (subst (λ (b : List ℕ). Writes (size old.up) old.items.items first.items.items (sent old.up) (sent first.up) (freed old.up) (freed first.up) (Overflow old.pending) old.moment b true) formed writes) in
+      let v : Writes old.load.now.ring old.journal.items first.journal.items (sent old.up) (sent first.up) (freed old.up) (freed first.up) (Overflow old.pending) old.moment (packet_block old.load.now (Overflow old.pending) old.moment old.last) true =
+      subst (λ (n : ℕ). Writes n old.journal.items first.journal.items (sent old.up) (sent first.up) (freed old.up) (freed first.up) (Overflow old.pending) old.moment (packet_block old.load.now (Overflow old.pending) old.moment old.last) true) fits
+      (subst (λ (b : List ℕ). Writes (size old.up) old.journal.items first.journal.items (sent old.up) (sent first.up) (freed old.up) (freed first.up) (Overflow old.pending) old.moment b true) formed writes) in
       let first_moment : first.moment ≡ old.moment = ap (λ (b : Book U). b.moment) written in
-      let w : Writes old.load.now.ring first.items.items second.items.items (sent first.up) (sent second.up) (freed first.up) (freed second.up) origin old.moment (packet_block old.load.now origin old.moment old.moment) stored =
-      subst (λ (n : ℕ). Writes n first.items.items second.items.items (sent first.up) (sent second.up) (freed first.up) (freed second.up) origin old.moment (packet_block old.load.now origin old.moment old.moment) stored) (same_size ∙ fits)
-      (subst (λ (b : List ℕ). Writes (size first.up) first.items.items second.items.items (sent first.up) (sent second.up) (freed first.up) (freed second.up) origin old.moment b stored) formed2
-      (subst (λ (m : ℕ). Writes (size first.up) first.items.items second.items.items (sent first.up) (sent second.up) (freed first.up) (freed second.up) origin m block stored) first_moment writes2)) in
-      let k2 : Keeps old.load.now old.items.items owed (sent old.up) (freed old.up) true old.pending old.last =
-      subst (λ (b : Bool). Keeps old.load.now old.items.items owed (sent old.up) (freed old.up) b old.pending old.last) on k in
-      let kept = packet-behind_stored old.load.now old.items.items first.items.items second.items.items owed rest (sent old.up) (sent first.up) (sent second.up) (freed old.up) (freed first.up) (freed second.up) old.pending old.last origin old.moment stored k2 some p v w in
+      let w : Writes old.load.now.ring first.journal.items second.journal.items (sent first.up) (sent second.up) (freed first.up) (freed second.up) origin old.moment (packet_block old.load.now origin old.moment old.moment) stored =
+      subst (λ (n : ℕ). Writes n first.journal.items second.journal.items (sent first.up) (sent second.up) (freed first.up) (freed second.up) origin old.moment (packet_block old.load.now origin old.moment old.moment) stored) (same_size ∙ fits)
+      (subst (λ (b : List ℕ). Writes (size first.up) first.journal.items second.journal.items (sent first.up) (sent second.up) (freed first.up) (freed second.up) origin old.moment b stored) formed2
+      (subst (λ (m : ℕ). Writes (size first.up) first.journal.items second.journal.items (sent first.up) (sent second.up) (freed first.up) (freed second.up) origin m block stored) first_moment writes2)) in
+      let k2 : Keeps old.load.now old.journal.items owed (sent old.up) (freed old.up) true old.pending old.last =
+      subst (λ (b : Bool). Keeps old.load.now old.journal.items owed (sent old.up) (freed old.up) b old.pending old.last) on k in
+      let kept = packet-behind_stored old.load.now old.journal.items first.journal.items second.journal.items owed rest (sent old.up) (sent first.up) (sent second.up) (freed old.up) (freed first.up) (freed second.up) old.pending old.last origin old.moment stored k2 some p v w in
       let same_load : second.load.now ≡ old.load.now = ap (λ (b : Book U). b.load.now) again ∙ ap (λ (b : Book U). b.load.now) written in
       let same_moment : second.moment ≡ old.moment = ap (λ (b : Book U). b.moment) again ∙ first_moment in
-      let whole : Keeps second.load.now second.items.items rest (sent second.up) (freed second.up) (not (is_stop_reply origin)) (if stored then 0 else 1) second.moment = rw (same_load, same_moment) kept in
+      let whole : Keeps second.load.now second.journal.items rest (sent second.up) (freed second.up) (not (is_stop_reply origin)) (if stored then 0 else 1) second.moment = rw (same_load, same_moment) kept in
       subst (λ (b : Book U). HoldsAs sent freed (not (is_stop_reply origin)) b rest) (sym settled)
-      (subst (λ (m : ℕ). Keeps second.load.now second.items.items rest (sent second.up) (freed second.up) (not (is_stop_reply origin)) (if stored then 0 else 1) m) (sym (either stored second.moment)) whole)
+      (subst (λ (m : ℕ). Keeps second.load.now second.journal.items rest (sent second.up) (freed second.up) (not (is_stop_reply origin)) (if stored then 0 else 1) m) (sym (either stored second.moment)) whole)
     where
       either : (b : Bool) (m : ℕ) → (if b then m else m) ≡ m
       either true m = refl
@@ -192,37 +192,37 @@ module _ {U : Type 0} (ring : U → List (List ℕ)) (size limit : U → ℕ) (s
 
   -- what a write of an item's block moves
   pub write-moved : (old mid : Book U) (origin : Origin) (block : List ℕ) (stored : Bool)
-      → mid ≡ record old { items = mid.items; up = mid.up } → size old.up ≡ old.load.now.ring
-      → Writes (size old.up) old.items.items mid.items.items (sent old.up) (sent mid.up) (freed old.up) (freed mid.up) origin old.moment block stored
+      → mid ≡ record old { journal = mid.journal; up = mid.up } → size old.up ≡ old.load.now.ring
+      → Writes (size old.up) old.journal.items mid.journal.items (sent old.up) (sent mid.up) (freed old.up) (freed mid.up) origin old.moment block stored
       → MovesBy size sent freed way old.up mid.up block stored
-      → sent old.up ≡ stream_of old.load.now old.items.items
-      → is_written (latest_first old.items.items) (made origin old.moment (freed mid.up) (outcome_if stored)) ≡ true
-      → block ≡ block_of old.load.now (latest_first old.items.items) (made origin old.moment (freed mid.up) (outcome_if stored))
-      → (sent mid.up ≡ stream_of mid.load.now mid.items.items)
-      × AreFreed old.load.now (latest_first old.items.items) (made origin old.moment (freed mid.up) (outcome_if stored) ∷ []) (way old.up) (freed old.up) (way mid.up) (freed mid.up)
+      → sent old.up ≡ stream_of old.load.now old.journal.items
+      → is_written (latest_first old.journal.items) (made origin old.moment (freed mid.up) (outcome_if stored)) ≡ true
+      → block ≡ block_of old.load.now (latest_first old.journal.items) (made origin old.moment (freed mid.up) (outcome_if stored))
+      → (sent mid.up ≡ stream_of mid.load.now mid.journal.items)
+      × AreFreed old.load.now (latest_first old.journal.items) (made origin old.moment (freed mid.up) (outcome_if stored) ∷ []) (way old.up) (freed old.up) (way mid.up) (freed mid.up)
   write-moved old mid origin block stored written fits w moves stream is_item block_is =
       let i : Item = made origin old.moment (freed mid.up) (outcome_if stored) in
-      let this : Written old.load.now old.items.items (sent old.up) block i stored = record { stream = stream; written = is_item; block_is = block_is; outcome = refl } in
+      let this : Written old.load.now old.journal.items (sent old.up) block i stored = record { stream = stream; written = is_item; block_is = block_is; outcome = refl } in
       (
-        written-stream old.load.now old.items.items (sent old.up) (sent mid.up) block i stored this w.grown ∙ sym (ap (λ (l : Load). stream_of l mid.items.items) (same_load old mid written) ∙ ap (stream_of old.load.now) w.item),
-        written-freed old.load.now old.items.items (sent old.up) block i stored (way old.up) (way mid.up) (freed old.up) this moves.0
+        written-stream old.load.now old.journal.items (sent old.up) (sent mid.up) block i stored this w.grown ∙ sym (ap (λ (l : Load). stream_of l mid.journal.items) (same_load old mid written) ∙ ap (stream_of old.load.now) w.item),
+        written-freed old.load.now old.journal.items (sent old.up) block i stored (way old.up) (way mid.up) (freed old.up) this moves.0
         (subst (λ (n : ℕ). Moves (way old.up) n (freed old.up) (freed mid.up) (sent old.up) block (wrote_if stored (room_of n (sent old.up) (freed mid.up)))) fits moves.1),
       )
 
   pub plain-goes : (old mid new : Book U) (origin : Origin) (block : List ℕ) (stored : Bool)
-      → mid ≡ record old { items = mid.items; up = mid.up }
+      → mid ≡ record old { journal = mid.journal; up = mid.up }
       → new ≡ record mid { pending = if stored then 0 else 1; last = if stored then mid.moment else mid.last }
       → size old.up ≡ old.load.now.ring
-      → (ring mid.up ≡ ring old.up) × (size mid.up ≡ size old.up) × (limit mid.up ≡ limit old.up) → vec_capacity mid.items ≡ vec_capacity old.items
-      → Writes (size old.up) old.items.items mid.items.items (sent old.up) (sent mid.up) (freed old.up) (freed mid.up) origin old.moment block stored
+      → (ring mid.up ≡ ring old.up) × (size mid.up ≡ size old.up) × (limit mid.up ≡ limit old.up) → vec_capacity mid.journal ≡ vec_capacity old.journal
+      → Writes (size old.up) old.journal.items mid.journal.items (sent old.up) (sent mid.up) (freed old.up) (freed mid.up) origin old.moment block stored
       → MovesBy size sent freed way old.up mid.up block stored
       → block ≡ packet_block old.load.now origin old.moment old.last → length block ≤ block_bytes old.load.now origin
       → is_telling origin ≡ true → IsFormed old.load.now origin
       → Goes ring size limit sent freed way (head_if origin) 2 (packet_bytes old.load.now origin) old new
   plain-goes old mid new origin block stored written settled fits same capacity w moves formed short telling fine =
-      let earlier : List Item = latest_first old.items.items in
+      let earlier : List Item = latest_first old.journal.items in
       let i : Item = made origin old.moment (freed mid.up) (outcome_if stored) in
-      let latest : latest_first mid.items.items ≡ i ∷ earlier = ap latest_first w.item ∙ latest_first-push old.items.items i in
+      let latest : latest_first mid.journal.items ≡ i ∷ earlier = ap latest_first w.item ∙ latest_first-push old.journal.items i in
       let one = stored_length (sent old.up) (sent mid.up) block stored w.grown in
       subst (Goes ring size limit sent freed way (head_if origin) 2 (packet_bytes old.load.now origin) old) (sym settled) (record {
         load = same_load old mid written;
@@ -251,26 +251,26 @@ module _ {U : Type 0} (ring : U → List (List ℕ)) (size limit : U → ℕ) (s
 
   -- refused with the overflow before it
   pub refused-goes : (old mid new : Book U) (origin : Origin) (overflow : List ℕ) (pending : ℕ)
-      → mid ≡ record old { items = mid.items; up = mid.up }
-      → new ≡ record mid { items = new.items }
+      → mid ≡ record old { journal = mid.journal; up = mid.up }
+      → new ≡ record mid { journal = new.journal }
       → size old.up ≡ old.load.now.ring
       → (ring mid.up ≡ ring old.up) × (size mid.up ≡ size old.up) × (limit mid.up ≡ limit old.up)
-      → vec_capacity mid.items ≡ vec_capacity old.items → vec_capacity new.items ≡ vec_capacity mid.items
-      → Writes (size old.up) old.items.items mid.items.items (sent old.up) (sent mid.up) (freed old.up) (freed mid.up) (Overflow old.pending) old.moment overflow false
+      → vec_capacity mid.journal ≡ vec_capacity old.journal → vec_capacity new.journal ≡ vec_capacity mid.journal
+      → Writes (size old.up) old.journal.items mid.journal.items (sent old.up) (sent mid.up) (freed old.up) (freed mid.up) (Overflow old.pending) old.moment overflow false
       → MovesBy size sent freed way old.up mid.up overflow false
       → overflow ≡ packet_block old.load.now (Overflow old.pending) old.moment old.last
-      → new.items.items ≡ mid.items.items ++ made origin mid.moment (freed mid.up) Refused ∷ []
+      → new.journal.items ≡ mid.journal.items ++ made origin mid.moment (freed mid.up) Refused ∷ []
       → is_telling origin ≡ true
       → Goes ring size limit sent freed way (head_if origin) 2 (packet_bytes old.load.now origin) old (record new { pending = pending })
   refused-goes old mid new origin overflow pending written noted fits same capacity capacity2 w moves formed item telling =
-      let earlier : List Item = latest_first old.items.items in
+      let earlier : List Item = latest_first old.journal.items in
       let o : Item = made (Overflow old.pending) old.moment (freed mid.up) Refused in
       let i : Item = made origin mid.moment (freed mid.up) Refused in
       let up : new.up ≡ mid.up = ap (λ (b : Book U). b.up) noted in
       let load : new.load.now ≡ mid.load.now = ap (λ (b : Book U). b.load.now) noted in
       let mid_load = same_load old mid written in
-      let behind : latest_first mid.items.items ≡ o ∷ earlier = ap latest_first w.item ∙ latest_first-push old.items.items o in
-      let latest : latest_first new.items.items ≡ i ∷ latest_first mid.items.items = ap latest_first item ∙ latest_first-push mid.items.items i in
+      let behind : latest_first mid.journal.items ≡ o ∷ earlier = ap latest_first w.item ∙ latest_first-push old.journal.items o in
+      let latest : latest_first new.journal.items ≡ i ∷ latest_first mid.journal.items = ap latest_first item ∙ latest_first-push mid.journal.items i in
       record {
         load = load ∙ mid_load;
         moment = ap (λ (b : Book U). b.moment) noted ∙ same_moment old mid written;
@@ -279,53 +279,53 @@ module _ {U : Type 0} (ring : U → List (List ℕ)) (size limit : U → ℕ) (s
         limit_same = ap limit up ∙ same.2;
         capacity = capacity2 ∙ capacity;
         more = o ∷ i ∷ [];
-        added = item ∙ ap (λ (is : List Item). is ++ i ∷ []) w.item ∙ append_assoc old.items.items (o ∷ []) (i ∷ []);
+        added = item ∙ ap (λ (is : List Item). is ++ i ∷ []) w.item ∙ append_assoc old.journal.items (o ∷ []) (i ∷ []);
         headed = headed_at origin old.pending old.moment mid.moment (freed mid.up) (freed mid.up) Refused Refused (same_moment old mid written);
         few = omega arith;
         short = omega (arith, ap length w.grown, length-append {A = ℕ} (sent old.up) [], ap (λ (u : U). length (sent u)) up);
         moved = λ s.
             let m = write-moved old mid (Overflow old.pending) overflow false written fits w moves s.stream refl (formed ∙ ap (packet_block old.load.now (Overflow old.pending) old.moment) s.last) in
-            let alone = unwritten-freed old.load.now (latest_first mid.items.items) i (way mid.up) (freed mid.up)
-            (refused_unwritten (latest_first mid.items.items) origin mid.moment (freed mid.up) telling (ap is_after_refused_overflow behind)) refl in
+            let alone = unwritten-freed old.load.now (latest_first mid.journal.items) i (way mid.up) (freed mid.up)
+            (refused_unwritten (latest_first mid.journal.items) origin mid.moment (freed mid.up) telling (ap is_after_refused_overflow behind)) refl in
             (
               record {
-                stream = ap sent up ∙ unwritten-stream mid.load.now mid.items.items (sent mid.up) i m.0 refl ∙ sym (ap (λ (l : Load). stream_of l new.items.items) load ∙ ap (stream_of mid.load.now) item);
+                stream = ap sent up ∙ unwritten-stream mid.load.now mid.journal.items (sent mid.up) i m.0 refl ∙ sym (ap (λ (l : Load). stream_of l new.journal.items) load ∙ ap (stream_of mid.load.now) item);
                 last = ap (λ (b : Book U). b.last) noted ∙ ap (λ (b : Book U). b.last) written ∙ s.last
-                ∙ sym (ap last_moment latest ∙ last_moment-other (latest_first mid.items.items) i refl ∙ ap last_moment behind ∙ last_moment-other earlier o refl);
+                ∙ sym (ap last_moment latest ∙ last_moment-other (latest_first mid.journal.items) i refl ∙ ap last_moment behind ∙ last_moment-other earlier o refl);
                 ready = ap is_after_refused_overflow latest ∙ ap (λ (b : Bool). b && true) (not_overflow origin telling);
               },
               subst (λ (u : U). AreFreed old.load.now earlier (o ∷ i ∷ []) (way old.up) (freed old.up) (way u) (freed u)) (sym up)
-              (freed-append old.load.now old.items.items (o ∷ []) (i ∷ []) (way old.up) (way mid.up) (way mid.up) (freed old.up) (freed mid.up) (freed mid.up) m.1
+              (freed-append old.load.now old.journal.items (o ∷ []) (i ∷ []) (way old.up) (way mid.up) (way mid.up) (freed old.up) (freed mid.up) (freed mid.up) m.1
               (subst (λ (is : List Item). AreFreed old.load.now (latest_first is) (i ∷ []) (way mid.up) (freed mid.up) (way mid.up) (freed mid.up)) w.item alone)),
             );
       }
 
   -- written behind a stored overflow
   pub behind-goes : (old first second new : Book U) (origin : Origin) (overflow block : List ℕ) (stored : Bool) (pending : ℕ)
-      → first ≡ record old { items = first.items; up = first.up }
-      → second ≡ record first { items = second.items; up = second.up }
+      → first ≡ record old { journal = first.journal; up = first.up }
+      → second ≡ record first { journal = second.journal; up = second.up }
       → new ≡ record second { pending = pending; last = if stored then second.moment else second.moment }
       → size old.up ≡ old.load.now.ring
       → (ring first.up ≡ ring old.up) × (size first.up ≡ size old.up) × (limit first.up ≡ limit old.up)
       → (ring second.up ≡ ring first.up) × (size second.up ≡ size first.up) × (limit second.up ≡ limit first.up)
-      → vec_capacity first.items ≡ vec_capacity old.items → vec_capacity second.items ≡ vec_capacity first.items
-      → Writes (size old.up) old.items.items first.items.items (sent old.up) (sent first.up) (freed old.up) (freed first.up) (Overflow old.pending) old.moment overflow true
-      → Writes (size first.up) first.items.items second.items.items (sent first.up) (sent second.up) (freed first.up) (freed second.up) origin first.moment block stored
+      → vec_capacity first.journal ≡ vec_capacity old.journal → vec_capacity second.journal ≡ vec_capacity first.journal
+      → Writes (size old.up) old.journal.items first.journal.items (sent old.up) (sent first.up) (freed old.up) (freed first.up) (Overflow old.pending) old.moment overflow true
+      → Writes (size first.up) first.journal.items second.journal.items (sent first.up) (sent second.up) (freed first.up) (freed second.up) origin first.moment block stored
       → MovesBy size sent freed way old.up first.up overflow true → MovesBy size sent freed way first.up second.up block stored
       → overflow ≡ packet_block old.load.now (Overflow old.pending) old.moment old.last → block ≡ packet_block old.load.now origin old.moment old.moment
       → length overflow ≤ 11 → length block ≤ block_bytes old.load.now origin → is_telling origin ≡ true → IsFormed old.load.now origin
       → Goes ring size limit sent freed way (head_if origin) 2 (packet_bytes old.load.now origin) old new
   behind-goes old first second new origin overflow block stored pending written again settled fits same same2 capacity capacity2 v w moves moves2 formed formed2 short short2 telling fine =
-      let earlier : List Item = latest_first old.items.items in
+      let earlier : List Item = latest_first old.journal.items in
       let o : Item = made (Overflow old.pending) old.moment (freed first.up) Stored in
       let i : Item = made origin first.moment (freed second.up) (outcome_if stored) in
       let first_load = same_load old first written in
       let first_moment = same_moment old first written in
-      let behind : latest_first first.items.items ≡ o ∷ earlier = ap latest_first v.item ∙ latest_first-push old.items.items o in
-      let latest : latest_first second.items.items ≡ i ∷ latest_first first.items.items = ap latest_first w.item ∙ latest_first-push first.items.items i in
+      let behind : latest_first first.journal.items ≡ o ∷ earlier = ap latest_first v.item ∙ latest_first-push old.journal.items o in
+      let latest : latest_first second.journal.items ≡ i ∷ latest_first first.journal.items = ap latest_first w.item ∙ latest_first-push first.journal.items i in
       let one = stored_length (sent old.up) (sent first.up) overflow true v.grown in
       let two = stored_length (sent first.up) (sent second.up) block stored w.grown in
-      let last_first : last_moment (latest_first first.items.items) ≡ first.moment = ap last_moment behind ∙ sym first_moment in
+      let last_first : last_moment (latest_first first.journal.items) ≡ first.moment = ap last_moment behind ∙ sym first_moment in
       subst (Goes ring size limit sent freed way (head_if origin) 2 (packet_bytes old.load.now origin) old) (sym settled) (record {
         load = same_load first second again ∙ first_load;
         moment = same_moment first second again ∙ first_moment;
@@ -334,7 +334,7 @@ module _ {U : Type 0} (ring : U → List (List ℕ)) (size limit : U → ℕ) (s
         limit_same = same2.2 ∙ same.2;
         capacity = capacity2 ∙ capacity;
         more = o ∷ i ∷ [];
-        added = w.item ∙ ap (λ (is : List Item). is ++ i ∷ []) v.item ∙ append_assoc old.items.items (o ∷ []) (i ∷ []);
+        added = w.item ∙ ap (λ (is : List Item). is ++ i ∷ []) v.item ∙ append_assoc old.journal.items (o ∷ []) (i ∷ []);
         headed = headed_at origin old.pending old.moment first.moment (freed first.up) (freed second.up) Stored (outcome_if stored) first_moment;
         few = omega arith;
         short = omega (arith, one, two, short, short2, bytes_behind old.load.now origin fine);
@@ -342,18 +342,18 @@ module _ {U : Type 0} (ring : U → List (List ℕ)) (size limit : U → ℕ) (s
             let m = write-moved old first (Overflow old.pending) overflow true written fits v moves s.stream refl (formed ∙ ap (packet_block old.load.now (Overflow old.pending) old.moment) s.last) in
             let block_is : block ≡ packet_block first.load.now origin first.moment first.moment = formed2 ∙ sym (ap (λ (l : Load). packet_block l origin first.moment first.moment) first_load ∙ ap (λ (n : ℕ). packet_block old.load.now origin n n) first_moment) in
             let m2 = write-moved first second origin block stored again (same.1 ∙ fits ∙ sym (ap (λ (l : Load). l.ring) first_load)) w moves2 m.0
-            (packet_written (latest_first first.items.items) origin first.moment (freed second.up) stored telling (ap is_after_refused_overflow behind))
-            (block_is ∙ sym (block_here first.load.now (latest_first first.items.items) origin first.moment (freed second.up) first.moment (outcome_if stored) telling (sym last_first))) in
+            (packet_written (latest_first first.journal.items) origin first.moment (freed second.up) stored telling (ap is_after_refused_overflow behind))
+            (block_is ∙ sym (block_here first.load.now (latest_first first.journal.items) origin first.moment (freed second.up) first.moment (outcome_if stored) telling (sym last_first))) in
             (
               record {
                 stream = m2.0;
                 last = either stored second.moment ∙ same_moment first second again
-                ∙ sym (ap last_moment latest ∙ last_again (latest_first first.items.items) i first.moment stored refl refl (not_sync origin telling) last_first);
+                ∙ sym (ap last_moment latest ∙ last_again (latest_first first.journal.items) i first.moment stored refl refl (not_sync origin telling) last_first);
                 ready = ap is_after_refused_overflow latest ∙ ap (λ (b : Bool). b && is_refused (outcome_if stored)) (not_overflow origin telling);
               },
-              freed-append old.load.now old.items.items (o ∷ []) (i ∷ []) (way old.up) (way first.up) (way second.up) (freed old.up) (freed first.up) (freed second.up) m.1
+              freed-append old.load.now old.journal.items (o ∷ []) (i ∷ []) (way old.up) (way first.up) (way second.up) (freed old.up) (freed first.up) (freed second.up) m.1
               (subst (λ (is : List Item). AreFreed old.load.now (latest_first is) (i ∷ []) (way first.up) (freed first.up) (way second.up) (freed second.up)) v.item
-              (subst (λ (l : Load). AreFreed l (latest_first first.items.items) (i ∷ []) (way first.up) (freed first.up) (way second.up) (freed second.up)) first_load m2.1)),
+              (subst (λ (l : Load). AreFreed l (latest_first first.journal.items) (i ∷ []) (way first.up) (freed first.up) (way second.up) (freed second.up)) first_load m2.1)),
             );
       })
     where

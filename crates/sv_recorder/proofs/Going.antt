@@ -64,7 +64,7 @@ sum_latest f items (i ∷ more) =
     ap (λ (k : List Item). sum_by f (latest_first k)) regrouped ∙ omega (arith, first, others, here)
 
 module _ {U : Type 0} (ring : U → List (List ℕ)) (size limit : U → ℕ) (sent : U → List ℕ) (freed : U → ℕ) (way : U → Way) where
-  pub goes-none : (old new : Book U) → new.load.now ≡ old.load.now → new.moment ≡ old.moment → new.up ≡ old.up → new.items ≡ old.items → new.last ≡ old.last → Goes ring size limit sent freed way [] 0 0 old new
+  pub goes-none : (old new : Book U) → new.load.now ≡ old.load.now → new.moment ≡ old.moment → new.up ≡ old.up → new.journal ≡ old.journal → new.last ≡ old.last → Goes ring size limit sent freed way [] 0 0 old new
   goes-none old new load moment up items last = record {
     load = load;
     moment = moment;
@@ -73,13 +73,13 @@ module _ {U : Type 0} (ring : U → List (List ℕ)) (size limit : U → ℕ) (s
     limit_same = ap limit up;
     capacity = ap vec_capacity items;
     more = [];
-    added = ap (λ v. v.items) items ∙ sym (append-nil old.items.items);
+    added = ap (λ v. v.items) items ∙ sym (append-nil old.journal.items);
     headed = refl;
     few = omega arith;
     short = omega (arith, ap (λ u. length (sent u)) up);
     moved = λ s. (
       record {
-        stream = ap sent up ∙ s.stream ∙ sym (ap (λ (l : Load). stream_of l new.items.items) load ∙ ap (λ v. stream_of old.load.now v.items) items);
+        stream = ap sent up ∙ s.stream ∙ sym (ap (λ (l : Load). stream_of l new.journal.items) load ∙ ap (λ v. stream_of old.load.now v.items) items);
         last = last ∙ s.last ∙ sym (ap (λ v. last_moment (latest_first v.items)) items);
         ready = ap (λ v. is_after_refused_overflow (latest_first v.items)) items ∙ s.ready;
       },
@@ -97,15 +97,15 @@ module _ {U : Type 0} (ring : U → List (List ℕ)) (size limit : U → ℕ) (s
     limit_same = q.limit_same ∙ p.limit_same;
     capacity = q.capacity ∙ p.capacity;
     more = p.more ++ q.more;
-    added = q.added ∙ ap (λ (is : List Item). is ++ q.more) p.added ∙ append_assoc old.items.items p.more q.more;
+    added = q.added ∙ ap (λ (is : List Item). is ++ q.more) p.added ∙ append_assoc old.journal.items p.more q.more;
     headed = heads_append p.more q.more ∙ ap (λ (os : List Origin). os ++ filter is_head (origins_of q.more)) p.headed ∙ ap (λ (os : List Origin). h ++ os) q.headed;
     few = omega (arith, p.few, q.few, length-append p.more q.more);
     short = omega (arith, p.short, q.short);
     moved = λ s. let one = p.moved s in let two = q.moved one.0 in
-        let behind : AreFreed old.load.now (latest_first (old.items.items ++ p.more)) q.more (way mid.up) (freed mid.up) (way new.up) (freed new.up) =
+        let behind : AreFreed old.load.now (latest_first (old.journal.items ++ p.more)) q.more (way mid.up) (freed mid.up) (way new.up) (freed new.up) =
         subst (λ (is : List Item). AreFreed old.load.now (latest_first is) q.more (way mid.up) (freed mid.up) (way new.up) (freed new.up)) p.added
-        (subst (λ (l : Load). AreFreed l (latest_first mid.items.items) q.more (way mid.up) (freed mid.up) (way new.up) (freed new.up)) p.load two.1) in
-        (two.0, freed-append old.load.now old.items.items p.more q.more (way old.up) (way mid.up) (way new.up) (freed old.up) (freed mid.up) (freed new.up) one.1 behind);
+        (subst (λ (l : Load). AreFreed l (latest_first mid.journal.items) q.more (way mid.up) (freed mid.up) (way new.up) (freed new.up)) p.load two.1) in
+        (two.0, freed-append old.load.now old.journal.items p.more q.more (way old.up) (way mid.up) (way new.up) (freed old.up) (freed mid.up) (freed new.up) one.1 behind);
   } where
     heads_append : (xs ys : List Item) → filter is_head (origins_of (xs ++ ys)) ≡ filter is_head (origins_of xs) ++ filter is_head (origins_of ys)
     heads_append xs ys =
@@ -114,7 +114,7 @@ module _ {U : Type 0} (ring : U → List (List ℕ)) (size limit : U → ℕ) (s
         ∙ filter-append is_head (origins_of xs) (origins_of ys)
 
   -- a later state that is told otherwise
-  pub goes-to : (old mid new : Book U) (h : List Origin) (m a : ℕ) → Goes ring size limit sent freed way h m a old mid → new.load.now ≡ mid.load.now → new.moment ≡ mid.moment → new.up ≡ mid.up → new.items ≡ mid.items → new.last ≡ mid.last
+  pub goes-to : (old mid new : Book U) (h : List Origin) (m a : ℕ) → Goes ring size limit sent freed way h m a old mid → new.load.now ≡ mid.load.now → new.moment ≡ mid.moment → new.up ≡ mid.up → new.journal ≡ mid.journal → new.last ≡ mid.last
       → Goes ring size limit sent freed way h m a old new
   goes-to old mid new h m a p load moment up items last =
       let whole = goes-then old mid new h [] m 0 a 0 p (goes-none mid new load moment up items last) in
@@ -125,21 +125,21 @@ module _ {U : Type 0} (ring : U → List (List ℕ)) (size limit : U → ℕ) (s
 
   -- the clock goes on with the heads
   pub clock-goes : (old new : Book U) (h : List Origin) (m a : ℕ) → Goes ring size limit sent freed way h m a old new
-      → clock_of new.load.now new.items.items ≡ clock_of old.load.now old.items.items + sum_by (ticks_of old.load.now) h
+      → clock_of new.load.now new.journal.items ≡ clock_of old.load.now old.journal.items + sum_by (ticks_of old.load.now) h
   clock-goes old new h m a p =
-      ap (λ (load : Load). clock_of load new.items.items) p.load ∙ ap (clock_of old.load.now) p.added
-      ∙ sum_latest (λ (i : Item). ticks_of old.load.now i.origin) old.items.items p.more
-      ∙ ap (λ (n : ℕ). clock_of old.load.now old.items.items + n) (ticks_heads old.load.now p.more ∙ ap (sum_by (ticks_of old.load.now)) p.headed)
+      ap (λ (load : Load). clock_of load new.journal.items) p.load ∙ ap (clock_of old.load.now) p.added
+      ∙ sum_latest (λ (i : Item). ticks_of old.load.now i.origin) old.journal.items p.more
+      ∙ ap (λ (n : ℕ). clock_of old.load.now old.journal.items + n) (ticks_heads old.load.now p.more ∙ ap (sum_by (ticks_of old.load.now)) p.headed)
 
   -- a note of an item that takes nothing from the ring
-  pub goes-note : (old new : Book U) (origin : Origin) (outcome : Outcome) → new ≡ record old { items = new.items } → vec_capacity new.items ≡ vec_capacity old.items
-      → new.items.items ≡ old.items.items ++ made origin old.moment (freed old.up) outcome ∷ [] → filter is_head (origins_of (made origin old.moment (freed old.up) outcome ∷ [])) ≡ head_if origin
-      → is_stored outcome ≡ false → is_overflow origin ≡ false → is_written (latest_first old.items.items) (made origin old.moment (freed old.up) outcome) ≡ false
+  pub goes-note : (old new : Book U) (origin : Origin) (outcome : Outcome) → new ≡ record old { journal = new.journal } → vec_capacity new.journal ≡ vec_capacity old.journal
+      → new.journal.items ≡ old.journal.items ++ made origin old.moment (freed old.up) outcome ∷ [] → filter is_head (origins_of (made origin old.moment (freed old.up) outcome ∷ [])) ≡ head_if origin
+      → is_stored outcome ≡ false → is_overflow origin ≡ false → is_written (latest_first old.journal.items) (made origin old.moment (freed old.up) outcome) ≡ false
       → Goes ring size limit sent freed way (head_if origin) 1 0 old new
   goes-note old new origin outcome changed capacity item headed not_stored not_overflow not_written =
       let up : new.up ≡ old.up = ap (λ (b : Book U). b.up) changed in
       let i : Item = made origin old.moment (freed old.up) outcome in
-      let latest : latest_first new.items.items ≡ i ∷ latest_first old.items.items = ap latest_first item ∙ latest_first-push old.items.items i in
+      let latest : latest_first new.journal.items ≡ i ∷ latest_first old.journal.items = ap latest_first item ∙ latest_first-push old.journal.items i in
       record {
         load = ap (λ (b : Book U). b.load.now) changed;
         moment = ap (λ (b : Book U). b.moment) changed;
@@ -154,13 +154,13 @@ module _ {U : Type 0} (ring : U → List (List ℕ)) (size limit : U → ℕ) (s
         short = omega (arith, ap (λ u. length (sent u)) up);
         moved = λ s. (
           record {
-            stream = ap sent up ∙ unwritten-stream old.load.now old.items.items (sent old.up) i s.stream not_stored
-            ∙ sym (ap (λ (b : Book U). stream_of b.load.now new.items.items) changed ∙ ap (stream_of old.load.now) item);
-            last = ap (λ (b : Book U). b.last) changed ∙ s.last ∙ sym (ap last_moment latest ∙ last_moment-other (latest_first old.items.items) i (ap (λ (b : Bool). b && not (is_sync origin)) not_stored));
+            stream = ap sent up ∙ unwritten-stream old.load.now old.journal.items (sent old.up) i s.stream not_stored
+            ∙ sym (ap (λ (b : Book U). stream_of b.load.now new.journal.items) changed ∙ ap (stream_of old.load.now) item);
+            last = ap (λ (b : Book U). b.last) changed ∙ s.last ∙ sym (ap last_moment latest ∙ last_moment-other (latest_first old.journal.items) i (ap (λ (b : Bool). b && not (is_sync origin)) not_stored));
             ready = ap is_after_refused_overflow latest ∙ ap (λ (b : Bool). b && is_refused outcome) not_overflow;
           },
-          subst (λ (u : U). AreFreed old.load.now (latest_first old.items.items) (i ∷ []) (way old.up) (freed old.up) (way u) (freed u)) (sym up)
-          (unwritten-freed old.load.now (latest_first old.items.items) i (way old.up) (freed old.up) not_written refl),
+          subst (λ (u : U). AreFreed old.load.now (latest_first old.journal.items) (i ∷ []) (way old.up) (freed old.up) (way u) (freed u)) (sym up)
+          (unwritten-freed old.load.now (latest_first old.journal.items) i (way old.up) (freed old.up) not_written refl),
         );
       }
 

@@ -29,16 +29,16 @@ at_place steps script place d is within not =
 
 module _ {U : Type 0} (ring : U → List (List ℕ)) (size limit : U → ℕ) (sent : U → List ℕ) (freed : U → ℕ) (way : U → Way) where
   abbrev Keeping : Book U → ℕ → Type 0
-  Keeping book place = IsRecorder book.load.now book.items.items (sent book.up) (freed book.up) (size book.up) (limit book.up) book.on book.pending book.last book.moment place (vec_capacity book.items)
+  Keeping book place = IsRecorder book.load.now book.journal.items (sent book.up) (freed book.up) (size book.up) (limit book.up) book.on book.pending book.last book.moment place (vec_capacity book.journal)
 
   abbrev Shown : Book U → Recording
-  Shown book = record { load = book.load.now; items = book.items.items; ring = ring book.up; size = size book.up; limit = limit book.up; sent = sent book.up; freed = freed book.up; way = way book.up }
+  Shown book = record { load = book.load.now; items = book.journal.items; ring = ring book.up; size = size book.up; limit = limit book.up; sent = sent book.up; freed = freed book.up; way = way book.up }
 
   abbrev Gone : Book U → Book U → ℕ → ℕ → Step → Type 0
   Gone old new writer place step = Goes ring size limit sent freed way (Call writer place ∷ []) (step_items step) (step_bytes step) (record old { moment = old.moment + step.advance }) new
 
   abbrev Kept : Book U → Book U → ℕ → ℕ → Type 0
-  Kept old new writer place = Holds sent freed old [] → IsNextStep old.load.now (latest_first old.items.items) (Call writer place) → old.moment ≡ clock_of old.load.now old.items.items → Holds sent freed new []
+  Kept old new writer place = Holds sent freed old [] → IsNextStep old.load.now (latest_first old.journal.items) (Call writer place) → old.moment ≡ clock_of old.load.now old.journal.items → Holds sent freed new []
 
   -- the one writer there is
   pub writer_zero : (old : Book U) (place writer : ℕ) (view : Recording) → Shown old ≡ view → Keeping old place → writer < length view.load.scripts → writer ≡ 0
@@ -54,7 +54,7 @@ module _ {U : Type 0} (ring : U → List (List ℕ)) (size limit : U → ℕ) (s
       taken ring size limit sent freed way old new place step r of (subst (λ (w : ℕ). Kept old new w place) only kept) (subst (λ (w : ℕ). Gone old new w place step) only goes) moment later
 
   abbrev SectionOf : Recording → Book U → ℕ → Type 0
-  SectionOf view new writer = (s : IsSection view.items new.items.items writer None) × AreFreed view.load (latest_first view.items) s.more view.way view.freed (way new.up) (freed new.up)
+  SectionOf view new writer = (s : IsSection view.items new.journal.items writer None) × AreFreed view.load (latest_first view.items) s.more view.way view.freed (way new.up) (freed new.up)
 
   pub section_shown : (old new : Book U) (writer place : ℕ) (step : Step) (view : Recording) → Shown old ≡ view → Keeping old place → writer ≡ 0 → Gone old new writer place step → SectionOf view new writer
   section_shown old new writer place step view is r only goes =
@@ -62,24 +62,24 @@ module _ {U : Type 0} (ring : U → List (List ℕ)) (size limit : U → ℕ) (s
       subst (λ (v : Recording). SectionOf v new writer) is (subst (λ (w : ℕ). SectionOf (Shown old) new w) (sym only) of)
 
   pub told_shown : (old new : Book U) (writer place : ℕ) (answer : Answer) (view : Recording) → Shown old ≡ view → Keeping old place → writer ≡ 0
-      → IsTold old.load.now new.items.items writer place answer
-      → IsTold view.load new.items.items writer (count_by (λ i. is_call_of writer i.origin) view.items) answer
+      → IsTold old.load.now new.journal.items writer place answer
+      → IsTold view.load new.journal.items writer (count_by (λ i. is_call_of writer i.origin) view.items) answer
   told_shown old new writer place answer view is r only told =
-      let at : place ≡ count_by (λ i. is_call_of writer i.origin) old.items.items = subst (λ (w : ℕ). place ≡ count_by (λ i. is_call_of w i.origin) old.items.items) (sym only) r.place_is in
-      subst (λ (v : Recording). IsTold v.load new.items.items writer (count_by (λ i. is_call_of writer i.origin) v.items) answer) is (subst (λ (n : ℕ). IsTold old.load.now new.items.items writer n answer) at told)
+      let at : place ≡ count_by (λ i. is_call_of writer i.origin) old.journal.items = subst (λ (w : ℕ). place ≡ count_by (λ i. is_call_of w i.origin) old.journal.items) (sym only) r.place_is in
+      subst (λ (v : Recording). IsTold v.load new.journal.items writer (count_by (λ i. is_call_of writer i.origin) v.items) answer) is (subst (λ (n : ℕ). IsTold old.load.now new.journal.items writer n answer) at told)
 
   -- the script is not through
   pub not_through : (old : Book U) (writer place : ℕ) (steps : List Step) (view : Recording) → Shown old ≡ view → Keeping old place → writer ≡ 0 → steps ≡ script_of old.load.now writer → (place ≡ length steps → ⊥)
       → count_by (λ i. is_call_of writer i.origin) view.items ≡ length (script_of view.load writer) → ⊥
   not_through old writer place steps view is r only steps_is not through =
-      let at : place ≡ count_by (λ i. is_call_of writer i.origin) old.items.items = subst (λ (w : ℕ). place ≡ count_by (λ i. is_call_of w i.origin) old.items.items) (sym only) r.place_is in
-      let here : count_by (λ i. is_call_of writer i.origin) old.items.items ≡ length (script_of old.load.now writer) = subst (λ (v : Recording). count_by (λ i. is_call_of writer i.origin) v.items ≡ length (script_of v.load writer)) (sym is) through in
+      let at : place ≡ count_by (λ i. is_call_of writer i.origin) old.journal.items = subst (λ (w : ℕ). place ≡ count_by (λ i. is_call_of w i.origin) old.journal.items) (sym only) r.place_is in
+      let here : count_by (λ i. is_call_of writer i.origin) old.journal.items ≡ length (script_of old.load.now writer) = subst (λ (v : Recording). count_by (λ i. is_call_of writer i.origin) v.items ≡ length (script_of v.load writer)) (sym is) through in
       not (at ∙ here ∙ sym (ap length steps_is))
 
   pub is_through : (old : Book U) (writer place : ℕ) (steps : List Step) (view : Recording) → Shown old ≡ view → Keeping old place → writer ≡ 0 → steps ≡ script_of old.load.now writer → place ≡ length steps
       → count_by (λ i. is_call_of writer i.origin) view.items ≡ length (script_of view.load writer)
   is_through old writer place steps view is r only steps_is end =
-      let at : place ≡ count_by (λ i. is_call_of writer i.origin) old.items.items = subst (λ (w : ℕ). place ≡ count_by (λ i. is_call_of w i.origin) old.items.items) (sym only) r.place_is in
+      let at : place ≡ count_by (λ i. is_call_of writer i.origin) old.journal.items = subst (λ (w : ℕ). place ≡ count_by (λ i. is_call_of w i.origin) old.journal.items) (sym only) r.place_is in
       subst (λ (v : Recording). count_by (λ i. is_call_of writer i.origin) v.items ≡ length (script_of v.load writer)) is (sym at ∙ end ∙ ap length steps_is)
 
   -- a script's steps can be counted

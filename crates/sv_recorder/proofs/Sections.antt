@@ -32,14 +32,14 @@ use Rattle.sv_recorder.proofs.Answering.{handled, synced, reply_here, no_stop, s
 
 module _ {U : Type 0} (ring : U → List (List ℕ)) (size limit : U → ℕ) (sent : U → List ℕ) (freed : U → ℕ) (way : U → Way) where
   pub sync-goes : (old new : Book U) (stored : Bool)
-      → new ≡ record old { items = new.items; up = new.up } → size old.up ≡ old.load.now.ring
-      → (ring new.up ≡ ring old.up) × (size new.up ≡ size old.up) × (limit new.up ≡ limit old.up) → vec_capacity new.items ≡ vec_capacity old.items
-      → Writes (size old.up) old.items.items new.items.items (sent old.up) (sent new.up) (freed old.up) (freed new.up) Sync old.moment (replicate 10 0) stored
+      → new ≡ record old { journal = new.journal; up = new.up } → size old.up ≡ old.load.now.ring
+      → (ring new.up ≡ ring old.up) × (size new.up ≡ size old.up) × (limit new.up ≡ limit old.up) → vec_capacity new.journal ≡ vec_capacity old.journal
+      → Writes (size old.up) old.journal.items new.journal.items (sent old.up) (sent new.up) (freed old.up) (freed new.up) Sync old.moment (replicate 10 0) stored
       → MovesBy size sent freed way old.up new.up (replicate 10 0) stored
       → Goes ring size limit sent freed way [] 1 10 old new
   sync-goes old new stored written fits same capacity w moves =
       let i : Item = made Sync old.moment (freed new.up) (outcome_if stored) in
-      let latest : latest_first new.items.items ≡ i ∷ latest_first old.items.items = ap latest_first w.item ∙ latest_first-push old.items.items i in
+      let latest : latest_first new.journal.items ≡ i ∷ latest_first old.journal.items = ap latest_first w.item ∙ latest_first-push old.journal.items i in
       record {
         load = same_load old new written;
         moment = same_moment old new written;
@@ -56,7 +56,7 @@ module _ {U : Type 0} (ring : U → List (List ℕ)) (size limit : U → ℕ) (s
             (
               record {
                 stream = m.0;
-                last = ap (λ (b : Book U). b.last) written ∙ s.last ∙ sym (ap last_moment latest ∙ last_moment-other (latest_first old.items.items) i (never (is_stored (outcome_if stored))));
+                last = ap (λ (b : Book U). b.last) written ∙ s.last ∙ sym (ap last_moment latest ∙ last_moment-other (latest_first old.journal.items) i (never (is_stored (outcome_if stored))));
                 ready = ap is_after_refused_overflow latest;
               },
               m.1,
@@ -68,15 +68,15 @@ module _ {U : Type 0} (ring : U → List (List ℕ)) (size limit : U → ℕ) (s
       never false = refl
 
   pub sync-holds : (old new : Book U) (stored : Bool)
-      → new ≡ record old { items = new.items; up = new.up } → size old.up ≡ old.load.now.ring → old.on ≡ true
-      → Writes (size old.up) old.items.items new.items.items (sent old.up) (sent new.up) (freed old.up) (freed new.up) Sync old.moment (replicate 10 0) stored
-      → (rest : List Origin) → Holds sent freed old (Sync ∷ rest) → old.moment ≡ clock_of old.load.now old.items.items → Holds sent freed new rest
+      → new ≡ record old { journal = new.journal; up = new.up } → size old.up ≡ old.load.now.ring → old.on ≡ true
+      → Writes (size old.up) old.journal.items new.journal.items (sent old.up) (sent new.up) (freed old.up) (freed new.up) Sync old.moment (replicate 10 0) stored
+      → (rest : List Origin) → Holds sent freed old (Sync ∷ rest) → old.moment ≡ clock_of old.load.now old.journal.items → Holds sent freed new rest
   sync-holds old new stored written fits on writes rest k clock =
-      let w : Writes old.load.now.ring old.items.items new.items.items (sent old.up) (sent new.up) (freed old.up) (freed new.up) Sync old.moment (replicate 10 0) stored =
-      subst (λ (n : ℕ). Writes n old.items.items new.items.items (sent old.up) (sent new.up) (freed old.up) (freed new.up) Sync old.moment (replicate 10 0) stored) fits writes in
-      let k2 : Keeps old.load.now old.items.items (Sync ∷ rest) (sent old.up) (freed old.up) true old.pending old.last =
-      subst (λ (b : Bool). Keeps old.load.now old.items.items (Sync ∷ rest) (sent old.up) (freed old.up) b old.pending old.last) on k in
-      let kept = synced old.load.now old.items.items new.items.items rest (sent old.up) (sent new.up) (freed old.up) (freed new.up) old.pending old.last old.moment stored k2 clock w in
+      let w : Writes old.load.now.ring old.journal.items new.journal.items (sent old.up) (sent new.up) (freed old.up) (freed new.up) Sync old.moment (replicate 10 0) stored =
+      subst (λ (n : ℕ). Writes n old.journal.items new.journal.items (sent old.up) (sent new.up) (freed old.up) (freed new.up) Sync old.moment (replicate 10 0) stored) fits writes in
+      let k2 : Keeps old.load.now old.journal.items (Sync ∷ rest) (sent old.up) (freed old.up) true old.pending old.last =
+      subst (λ (b : Bool). Keeps old.load.now old.journal.items (Sync ∷ rest) (sent old.up) (freed old.up) b old.pending old.last) on k in
+      let kept = synced old.load.now old.journal.items new.journal.items rest (sent old.up) (sent new.up) (freed old.up) (freed new.up) old.pending old.last old.moment stored k2 clock w in
       let load = same_load old new written in
       let new_on : new.on ≡ true = ap (λ (b : Book U). b.on) written ∙ on in
       let pending : new.pending ≡ old.pending = ap (λ (b : Book U). b.pending) written in
@@ -86,15 +86,15 @@ module _ {U : Type 0} (ring : U → List (List ℕ)) (size limit : U → ℕ) (s
   -- one more reply
   pub replied-more : (kinds : List Kind) (done : ℕ) (kind : Kind) (old mid new : Book U)
       → AreReplied ring size limit sent freed way kinds done old mid → done < length kinds → drop done kinds ≡ kind ∷ drop (done + 1) kinds → is_start_kind kind ≡ true
-      → ((owed rest : List Origin) → Holds sent freed mid owed → IsPacketHere mid.load.now mid.items.items owed (Reply kind 0) mid.moment rest → HoldsAs sent freed (mid.on && not (is_stop_reply (Reply kind 0))) new rest)
+      → ((owed rest : List Origin) → Holds sent freed mid owed → IsPacketHere mid.load.now mid.journal.items owed (Reply kind 0) mid.moment rest → HoldsAs sent freed (mid.on && not (is_stop_reply (Reply kind 0))) new rest)
       → Goes ring size limit sent freed way [] 2 40 mid new → new.on ≡ mid.on → new.last ≤ new.moment → new.pending ≤ mid.pending + 1
       → AreReplied ring size limit sent freed way kinds (done + 1) old new
   replied-more kinds done kind old mid new before within next start kept goes on later pending = record {
     kept = λ rest k clock.
         let so_far : Holds sent freed mid (map reply_of (kind ∷ drop (done + 1) kinds) ++ rest) = subst (λ (ks : List Kind). Holds sent freed mid (map reply_of ks ++ rest)) next (before.kept rest k clock) in
-        let clocked : mid.moment ≡ clock_of mid.load.now mid.items.items =
-        before.goes.moment ∙ clock ∙ sym (clock-goes ring size limit sent freed way old mid [] (2 * done) (40 * done) before.goes ∙ (let e : clock_of old.load.now old.items.items + 0 ≡ clock_of old.load.now old.items.items = omega arith in e)) in
-        let here = reply_here mid.load.now mid.items.items kind mid.moment (map reply_of (drop (done + 1) kinds) ++ rest) clocked in
+        let clocked : mid.moment ≡ clock_of mid.load.now mid.journal.items =
+        before.goes.moment ∙ clock ∙ sym (clock-goes ring size limit sent freed way old mid [] (2 * done) (40 * done) before.goes ∙ (let e : clock_of old.load.now old.journal.items + 0 ≡ clock_of old.load.now old.journal.items = omega arith in e)) in
+        let here = reply_here mid.load.now mid.journal.items kind mid.moment (map reply_of (drop (done + 1) kinds) ++ rest) clocked in
         let told = kept (reply_of kind ∷ (map reply_of (drop (done + 1) kinds) ++ rest)) (map reply_of (drop (done + 1) kinds) ++ rest) so_far here in
         let still_on : (mid.on && not (is_stop_reply (Reply kind 0))) ≡ new.on =
         ap (λ (b : Bool). b && not (is_stop_reply (Reply kind 0))) before.on ∙ ap not (no_stop kind start) ∙ sym (on ∙ before.on) in
@@ -111,30 +111,30 @@ module _ {U : Type 0} (ring : U → List (List ℕ)) (size limit : U → ℕ) (s
 
   -- a start
   pub start-holds : (old noted opened synced_ new : Book U) (writer step : ℕ)
-      → noted ≡ record old { items = noted.items } → opened ≡ record noted { on = true }
-      → noted.items.items ≡ old.items.items ++ made (Call writer step) old.moment (freed old.up) Handled ∷ []
+      → noted ≡ record old { journal = noted.journal } → opened ≡ record noted { on = true }
+      → noted.journal.items ≡ old.journal.items ++ made (Call writer step) old.moment (freed old.up) Handled ∷ []
       → act_of old.load.now writer step ≡ Some acts.Start → IsPlain old.load.now
-      → ((rest : List Origin) → Holds sent freed opened (Sync ∷ rest) → opened.moment ≡ clock_of opened.load.now opened.items.items → Holds sent freed synced_ rest)
+      → ((rest : List Origin) → Holds sent freed opened (Sync ∷ rest) → opened.moment ≡ clock_of opened.load.now opened.journal.items → Holds sent freed synced_ rest)
       → Goes ring size limit sent freed way [] 1 10 opened synced_
-      → ((rest : List Origin) → Holds sent freed synced_ (map reply_of (kinds.TraceStart ∷ kinds.Init ∷ kinds.Systime ∷ kinds.ModuleCount ∷ []) ++ rest) → synced_.moment ≡ clock_of synced_.load.now synced_.items.items → Holds sent freed new rest)
+      → ((rest : List Origin) → Holds sent freed synced_ (map reply_of (kinds.TraceStart ∷ kinds.Init ∷ kinds.Systime ∷ kinds.ModuleCount ∷ []) ++ rest) → synced_.moment ≡ clock_of synced_.load.now synced_.journal.items → Holds sent freed new rest)
       → Goes ring size limit sent freed way (Call writer step ∷ []) 1 0 old opened
-      → Holds sent freed old [] → IsNextStep old.load.now (latest_first old.items.items) (Call writer step) → old.moment ≡ ticks_of old.load.now (Call writer step) + clock_of old.load.now old.items.items
+      → Holds sent freed old [] → IsNextStep old.load.now (latest_first old.journal.items) (Call writer step) → old.moment ≡ ticks_of old.load.now (Call writer step) + clock_of old.load.now old.journal.items
       → Holds sent freed new []
   start-holds old noted opened synced_ new writer step changed on item act plain sync_kept sync_goes replies_kept head_goes k next clock =
       let owes = start_owes old.load.now writer step plain act in
       let control : is_control old.load.now (Call writer step) ≡ true = rw owes.1 refl in
-      let kept = handled old.load.now old.items.items (sent old.up) (freed old.up) old.on old.pending old.last writer step old.moment k control next clock in
-      let kept2 : Keeps old.load.now noted.items.items (Sync ∷ (map reply_of (kinds.TraceStart ∷ kinds.Init ∷ kinds.Systime ∷ kinds.ModuleCount ∷ []) ++ [])) (sent old.up) (freed old.up) true old.pending old.last =
+      let kept = handled old.load.now old.journal.items (sent old.up) (freed old.up) old.on old.pending old.last writer step old.moment k control next clock in
+      let kept2 : Keeps old.load.now noted.journal.items (Sync ∷ (map reply_of (kinds.TraceStart ∷ kinds.Init ∷ kinds.Systime ∷ kinds.ModuleCount ∷ []) ++ [])) (sent old.up) (freed old.up) true old.pending old.last =
       subst (λ (is : List Item). Keeps old.load.now is (Sync ∷ (map reply_of (kinds.TraceStart ∷ kinds.Init ∷ kinds.Systime ∷ kinds.ModuleCount ∷ []) ++ [])) (sent old.up) (freed old.up) true old.pending old.last) (sym item)
       (rw (owes.0, owes.1) at kept) in
       let held : Holds sent freed opened (Sync ∷ (map reply_of (kinds.TraceStart ∷ kinds.Init ∷ kinds.Systime ∷ kinds.ModuleCount ∷ []) ++ [])) =
       subst (λ (b : Book U). Holds sent freed b (Sync ∷ (map reply_of (kinds.TraceStart ∷ kinds.Init ∷ kinds.Systime ∷ kinds.ModuleCount ∷ []) ++ []))) (sym on)
       (rw (ap (λ (b : Book U). b.load.now) changed, ap (λ (b : Book U). b.up) changed, ap (λ (b : Book U). b.pending) changed, ap (λ (b : Book U). b.last) changed) kept2) in
-      let clock1 : opened.moment ≡ clock_of opened.load.now opened.items.items =
-      head_goes.moment ∙ clock ∙ sym (clock-goes ring size limit sent freed way old opened (Call writer step ∷ []) 1 0 head_goes ∙ one_head (clock_of old.load.now old.items.items) (ticks_of old.load.now (Call writer step))) in
+      let clock1 : opened.moment ≡ clock_of opened.load.now opened.journal.items =
+      head_goes.moment ∙ clock ∙ sym (clock-goes ring size limit sent freed way old opened (Call writer step ∷ []) 1 0 head_goes ∙ one_head (clock_of old.load.now old.journal.items) (ticks_of old.load.now (Call writer step))) in
       let held2 = sync_kept (map reply_of (kinds.TraceStart ∷ kinds.Init ∷ kinds.Systime ∷ kinds.ModuleCount ∷ []) ++ []) held clock1 in
-      let clock2 : synced_.moment ≡ clock_of synced_.load.now synced_.items.items =
-      sync_goes.moment ∙ clock1 ∙ sym (clock-goes ring size limit sent freed way opened synced_ [] 1 10 sync_goes ∙ (let e : clock_of opened.load.now opened.items.items + 0 ≡ clock_of opened.load.now opened.items.items = omega arith in e)) in
+      let clock2 : synced_.moment ≡ clock_of synced_.load.now synced_.journal.items =
+      sync_goes.moment ∙ clock1 ∙ sym (clock-goes ring size limit sent freed way opened synced_ [] 1 10 sync_goes ∙ (let e : clock_of opened.load.now opened.journal.items + 0 ≡ clock_of opened.load.now opened.journal.items = omega arith in e)) in
       replies_kept [] held2 clock2
     where
       one_head : (n m : ℕ) → n + (0 + m) ≡ m + n
@@ -142,25 +142,25 @@ module _ {U : Type 0} (ring : U → List (List ℕ)) (size limit : U → ℕ) (s
 
   -- a stop
   pub stop-holds : (old noted packed new : Book U) (writer step : ℕ)
-      → noted ≡ record old { items = noted.items } → new ≡ record packed { on = false }
-      → noted.items.items ≡ old.items.items ++ made (Call writer step) old.moment (freed old.up) Handled ∷ []
+      → noted ≡ record old { journal = noted.journal } → new ≡ record packed { on = false }
+      → noted.journal.items ≡ old.journal.items ++ made (Call writer step) old.moment (freed old.up) Handled ∷ []
       → act_of old.load.now writer step ≡ Some acts.Stop
-      → ((owed rest : List Origin) → Holds sent freed noted owed → IsPacketHere noted.load.now noted.items.items owed (Reply kinds.TraceStop 0) noted.moment rest → HoldsAs sent freed (noted.on && not (is_stop_reply (Reply kinds.TraceStop 0))) packed rest)
+      → ((owed rest : List Origin) → Holds sent freed noted owed → IsPacketHere noted.load.now noted.journal.items owed (Reply kinds.TraceStop 0) noted.moment rest → HoldsAs sent freed (noted.on && not (is_stop_reply (Reply kinds.TraceStop 0))) packed rest)
       → Goes ring size limit sent freed way (Call writer step ∷ []) 1 0 old noted
-      → Holds sent freed old [] → IsNextStep old.load.now (latest_first old.items.items) (Call writer step) → old.moment ≡ ticks_of old.load.now (Call writer step) + clock_of old.load.now old.items.items
+      → Holds sent freed old [] → IsNextStep old.load.now (latest_first old.journal.items) (Call writer step) → old.moment ≡ ticks_of old.load.now (Call writer step) + clock_of old.load.now old.journal.items
       → Holds sent freed new []
   stop-holds old noted packed new writer step changed off item act packet_kept head_goes k next clock =
       let owes = stop_owes old.load.now writer step act in
       let control : is_control old.load.now (Call writer step) ≡ true = rw (owes.1, owes.2) refl in
-      let kept = handled old.load.now old.items.items (sent old.up) (freed old.up) old.on old.pending old.last writer step old.moment k control next clock in
-      let kept2 : Keeps old.load.now noted.items.items (reply_of kinds.TraceStop ∷ []) (sent old.up) (freed old.up) old.on old.pending old.last =
+      let kept = handled old.load.now old.journal.items (sent old.up) (freed old.up) old.on old.pending old.last writer step old.moment k control next clock in
+      let kept2 : Keeps old.load.now noted.journal.items (reply_of kinds.TraceStop ∷ []) (sent old.up) (freed old.up) old.on old.pending old.last =
       subst (λ (is : List Item). Keeps old.load.now is (reply_of kinds.TraceStop ∷ []) (sent old.up) (freed old.up) old.on old.pending old.last) (sym item)
       (rw (owes.0, owes.1) at kept) in
       let held : Holds sent freed noted (reply_of kinds.TraceStop ∷ []) =
       rw (ap (λ (b : Book U). b.load.now) changed, ap (λ (b : Book U). b.up) changed, ap (λ (b : Book U). b.on) changed, ap (λ (b : Book U). b.pending) changed, ap (λ (b : Book U). b.last) changed) kept2 in
-      let clock1 : noted.moment ≡ clock_of noted.load.now noted.items.items =
-      head_goes.moment ∙ clock ∙ sym (clock-goes ring size limit sent freed way old noted (Call writer step ∷ []) 1 0 head_goes ∙ one_head (clock_of old.load.now old.items.items) (ticks_of old.load.now (Call writer step))) in
-      let told = packet_kept (reply_of kinds.TraceStop ∷ []) [] held (reply_here noted.load.now noted.items.items kinds.TraceStop noted.moment [] clock1) in
+      let clock1 : noted.moment ≡ clock_of noted.load.now noted.journal.items =
+      head_goes.moment ∙ clock ∙ sym (clock-goes ring size limit sent freed way old noted (Call writer step ∷ []) 1 0 head_goes ∙ one_head (clock_of old.load.now old.journal.items) (ticks_of old.load.now (Call writer step))) in
+      let told = packet_kept (reply_of kinds.TraceStop ∷ []) [] held (reply_here noted.load.now noted.journal.items kinds.TraceStop noted.moment [] clock1) in
       subst (λ (b : Book U). Holds sent freed b []) (sym off) (subst (λ (b : Bool). HoldsAs sent freed b packed []) (none noted.on) told)
     where
       one_head : (n m : ℕ) → n + (0 + m) ≡ m + n
@@ -172,9 +172,9 @@ module _ {U : Type 0} (ring : U → List (List ℕ)) (size limit : U → ℕ) (s
 
   -- a step that records an event
   pub event-holds : (old new : Book U) (writer step : ℕ) (event : Event) → act_of old.load.now writer step ≡ Some (acts.Event event)
-      → ((owed rest : List Origin) → Holds sent freed old owed → IsPacketHere old.load.now old.items.items owed (Call writer step) old.moment rest → HoldsAs sent freed (old.on && not (is_stop_reply (Call writer step))) new rest)
+      → ((owed rest : List Origin) → Holds sent freed old owed → IsPacketHere old.load.now old.journal.items owed (Call writer step) old.moment rest → HoldsAs sent freed (old.on && not (is_stop_reply (Call writer step))) new rest)
       → new.on ≡ old.on
-      → Holds sent freed old [] → IsNextStep old.load.now (latest_first old.items.items) (Call writer step) → old.moment ≡ ticks_of old.load.now (Call writer step) + clock_of old.load.now old.items.items
+      → Holds sent freed old [] → IsNextStep old.load.now (latest_first old.journal.items) (Call writer step) → old.moment ≡ ticks_of old.load.now (Call writer step) + clock_of old.load.now old.journal.items
       → Holds sent freed new []
   event-holds old new writer step event act packet_kept on k next clock =
       let owes = event_owes old.load.now writer step (acts.Event event) act refl refl in

@@ -12,11 +12,11 @@ use Rattle.sv_recorder.specs.Legal.{is_head, origins_of}
 
 -- the book keeps a journal that owes these answers
 abbrev pub Holds : {U : Type 0} → (U → List ℕ) → (U → ℕ) → Book U → List Origin → Type 0
-Holds sent freed book owed = Keeps book.load.now book.items.items owed (sent book.up) (freed book.up) book.on book.pending book.last
+Holds sent freed book owed = Keeps book.load.now book.journal.items owed (sent book.up) (freed book.up) book.on book.pending book.last
 
 -- the same, where the recorder is on or off otherwise than the book says
 abbrev pub HoldsAs : {U : Type 0} → (U → List ℕ) → (U → ℕ) → Bool → Book U → List Origin → Type 0
-HoldsAs sent freed on book owed = Keeps book.load.now book.items.items owed (sent book.up) (freed book.up) on book.pending book.last
+HoldsAs sent freed on book owed = Keeps book.load.now book.journal.items owed (sent book.up) (freed book.up) on book.pending book.last
 
 -- the head of a group that an item is, if it is one
 abbrev pub head_if : Origin → List Origin
@@ -25,9 +25,9 @@ head_if origin = if is_head origin then origin ∷ [] else []
 -- the bytes sent are the journal's, the last moment is that of its last stored packet, and no refused overflow waits
 -- for its packet
 pub record IsInStep {U : Type 0} (sent : U → List ℕ) (book : Book U) : Type 0 where
-  pub stream : sent book.up ≡ stream_of book.load.now book.items.items
-  pub last : book.last ≡ last_moment (latest_first book.items.items)
-  pub ready : is_after_refused_overflow (latest_first book.items.items) ≡ false
+  pub stream : sent book.up ≡ stream_of book.load.now book.journal.items
+  pub last : book.last ≡ last_moment (latest_first book.journal.items)
+  pub ready : is_after_refused_overflow (latest_first book.journal.items) ≡ false
 
 -- from one state to a later one: these heads of groups, at most so many items and bytes more, and the rest as before
 pub record Goes {U : Type 0} (ring : U → List (List ℕ)) (size limit : U → ℕ) (sent : U → List ℕ) (freed : U → ℕ) (way : U → Way)
@@ -37,15 +37,15 @@ pub record Goes {U : Type 0} (ring : U → List (List ℕ)) (size limit : U → 
   pub ring_same : ring new.up ≡ ring old.up
   pub size_same : size new.up ≡ size old.up
   pub limit_same : limit new.up ≡ limit old.up
-  pub capacity : vec_capacity new.items ≡ vec_capacity old.items
+  pub capacity : vec_capacity new.journal ≡ vec_capacity old.journal
   pub more : List Item
-  pub added : new.items.items ≡ old.items.items ++ more
+  pub added : new.journal.items ≡ old.journal.items ++ more
   pub headed : filter is_head (origins_of more) ≡ heads
   pub few : length more ≤ items
   pub short : length (sent new.up) ≤ length (sent old.up) + bytes
   -- what is known to be freed, where the book was in step with its ring
   pub moved : IsInStep sent old →
-      IsInStep sent new × AreFreed old.load.now (latest_first old.items.items) more (way old.up) (freed old.up) (way new.up) (freed new.up)
+      IsInStep sent new × AreFreed old.load.now (latest_first old.journal.items) more (way old.up) (freed old.up) (way new.up) (freed new.up)
 
 -- the last item is of this origin
 abbrev pub IsLast : Origin → List Item → Type 0

@@ -10,7 +10,7 @@ use Rattle.sv_recorder.specs.Clock.{clock_of, reply_of}
 -- so many of the replies are recorded
 pub record AreReplied {U : Type 0} (ring : U → List (List ℕ)) (size limit : U → ℕ) (sent : U → List ℕ) (freed : U → ℕ) (way : U → Way)
     (kinds : List Kind) (done : ℕ) (old now : Book U) : Type 0 where
-  pub kept : (rest : List Origin) → Holds sent freed old (map reply_of kinds ++ rest) → old.moment ≡ clock_of old.load.now old.items.items → Holds sent freed now (map reply_of (drop done kinds) ++ rest)
+  pub kept : (rest : List Origin) → Holds sent freed old (map reply_of kinds ++ rest) → old.moment ≡ clock_of old.load.now old.journal.items → Holds sent freed now (map reply_of (drop done kinds) ++ rest)
   pub goes : Goes ring size limit sent freed way [] (2 * done) (40 * done) old now
   pub on : now.on ≡ true
   pub later : now.last ≤ now.moment

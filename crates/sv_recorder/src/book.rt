@@ -3,7 +3,7 @@ ghost use Rattle.std.specs.Prelude.{◌≡◌, ℕ, ◌+◌, ◌<◌, ◌≤◌,
 ghost use Rattle.sv_ring.specs.Ring.{room_of};
 ghost use Rattle.sv_recorder.specs.Writes.{Writes, MovesBy, made, outcome_if};
 
-use crate::journal::{Item, Origin, Outcome};
+use crate::journal::{Item, Journal, Origin, Outcome};
 use sv_ring::{UpWriter, Wrote};
 use sv_workload::Workload;
 
@@ -14,7 +14,7 @@ use sv_workload::Workload;
 pub struct Book<'w, U: UpWriter + Drop> {
     pub load: &'w Workload,
     pub up: U,
-    pub items: Vec<Item>,
+    pub journal: Journal,
     pub on: bool,
     pub pending: u32,
     pub last: u64,
@@ -55,15 +55,15 @@ impl<'w, U: UpWriter + Drop> Book<'w, U> {
 
     /// One item more, of the moment and with what the ring knows to be freed.
     pub fn note(&mut self, origin: Origin, outcome: Outcome)
-        requires room { length self.old.items.items < vec_capacity self.old.items }
-        ensures item { self.new.items.items ≡ self.old.items.items ++ made origin self.old.moment (U.freed
+        requires room { length self.old.journal.items < vec_capacity self.old.journal }
+        ensures item { self.new.journal.items ≡ self.old.journal.items ++ made origin self.old.moment (U.freed
             self.old.up) outcome ∷ [] }
-        ensures capacity { vec_capacity self.new.items ≡ vec_capacity self.old.items }
-        ensures rest { self.new ≡ record self.old { items = self.new.items } }
+        ensures capacity { vec_capacity self.new.journal ≡ vec_capacity self.old.journal }
+        ensures rest { self.new ≡ record self.old { journal = self.new.journal } }
     {
         let freed = self.up.freed();
         let moment = self.moment;
-        self.items.push_reserved(Item {
+        self.journal.push_reserved(Item {
             origin,
             moment,
             freed,
@@ -73,17 +73,17 @@ impl<'w, U: UpWriter + Drop> Book<'w, U> {
 
     /// Writes a block, notes what became of it, and says whether it is stored.
     pub fn write(&mut self, origin: Origin, block: &[u8]) -> bool
-        requires room { length self.old.items.items < vec_capacity self.old.items }
+        requires room { length self.old.journal.items < vec_capacity self.old.journal }
         requires some { 0 < length block.now }
         requires within { length (U.sent self.old.up) + length block.now ≤ U.limit self.old.up }
-        ensures writes { Writes (U.size self.old.up) self.old.items.items self.new.items.items (U.sent
+        ensures writes { Writes (U.size self.old.up) self.old.journal.items self.new.journal.items (U.sent
             self.old.up) (U.sent self.new.up) (U.freed self.old.up) (U.freed self.new.up)
             origin self.old.moment block.now result }
-        ensures rest { self.new ≡ record self.old { items = self.new.items; up = self.new.up } }
+        ensures rest { self.new ≡ record self.old { journal = self.new.journal; up = self.new.up } }
         ensures same { (U.ring self.new.up ≡ U.ring self.old.up)
             × (U.size self.new.up ≡ U.size self.old.up)
             × (U.limit self.new.up ≡ U.limit self.old.up) }
-        ensures capacity { vec_capacity self.new.items ≡ vec_capacity self.old.items }
+        ensures capacity { vec_capacity self.new.journal ≡ vec_capacity self.old.journal }
         ensures moves { MovesBy U.size U.sent U.freed U.way self.old.up self.new.up block.now result }
     {
         let stored = stores(&mut self.up, block);

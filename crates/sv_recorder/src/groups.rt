@@ -30,11 +30,11 @@ impl<'w, U: UpWriter + Drop> Book<'w, U> {
     /// Ten zero bytes, by which a host finds its place.
     fn sync(&mut self)
         requires ring { U.size self.old.up ≡ self.old.load.now.ring }
-        requires room { length self.old.items.items < vec_capacity self.old.items }
+        requires room { length self.old.journal.items < vec_capacity self.old.journal }
         requires within { length (U.sent self.old.up) + 10 ≤ U.limit self.old.up }
         requires on { self.old.on ≡ true }
         ensures kept { (rest : List Origin) → Holds U.sent U.freed self.old (Sync ∷ rest) →
-            self.old.moment ≡ clock_of self.old.load.now self.old.items.items →
+            self.old.moment ≡ clock_of self.old.load.now self.old.journal.items →
             Holds U.sent U.freed self.new rest }
         ensures goes { Goes U.ring U.size U.limit U.sent U.freed U.way [] 1 10 self.old self.new }
         ensures same { (self.new.on ≡ self.old.on) × (self.new.pending ≡ self.old.pending)
@@ -48,14 +48,14 @@ impl<'w, U: UpWriter + Drop> Book<'w, U> {
         requires kinds { list_all is_start_kind kinds.now ≡ true }
         requires plain { IsPlain self.old.load.now }
         requires ring { U.size self.old.up ≡ self.old.load.now.ring }
-        requires room { length self.old.items.items + 2 * length kinds.now ≤ vec_capacity self.old.items }
+        requires room { length self.old.journal.items + 2 * length kinds.now ≤ vec_capacity self.old.journal }
         requires within { length (U.sent self.old.up) + 40 * length kinds.now ≤ U.limit self.old.up }
         requires later { self.old.last ≤ self.old.moment }
         requires few { self.old.pending + length kinds.now < 2 ^ 32 }
         requires on { self.old.on ≡ true }
         ensures kept { (rest : List Origin) →
             Holds U.sent U.freed self.old (map reply_of kinds.now ++ rest) →
-            self.old.moment ≡ clock_of self.old.load.now self.old.items.items →
+            self.old.moment ≡ clock_of self.old.load.now self.old.journal.items →
             Holds U.sent U.freed self.new rest }
         ensures goes { Goes U.ring U.size U.limit U.sent U.freed U.way [] (2 * length kinds.now) (40 * length
             kinds.now) self.old self.new }
@@ -76,14 +76,14 @@ impl<'w, U: UpWriter + Drop> Book<'w, U> {
         requires act { act_of self.old.load.now writer step ≡ Some acts.Start }
         requires plain { IsPlain self.old.load.now }
         requires ring { U.size self.old.up ≡ self.old.load.now.ring }
-        requires room { length self.old.items.items + 10 ≤ vec_capacity self.old.items }
+        requires room { length self.old.journal.items + 10 ≤ vec_capacity self.old.journal }
         requires within { length (U.sent self.old.up) + 170 ≤ U.limit self.old.up }
         requires later { self.old.last ≤ self.old.moment }
         requires few { self.old.pending + 4 < 2 ^ 32 }
         ensures kept { Holds U.sent U.freed self.old [] →
-            IsNextStep self.old.load.now (latest_first self.old.items.items) (Call writer step) →
+            IsNextStep self.old.load.now (latest_first self.old.journal.items) (Call writer step) →
             self.old.moment ≡ ticks_of self.old.load.now (Call writer step) + clock_of
-            self.old.load.now self.old.items.items → Holds U.sent U.freed self.new [] }
+            self.old.load.now self.old.journal.items → Holds U.sent U.freed self.new [] }
         ensures goes { Goes U.ring U.size U.limit U.sent U.freed U.way (Call writer step ∷ []) 10 170 self.old
             self.new }
         ensures later { self.new.last ≤ self.new.moment }
@@ -105,14 +105,14 @@ impl<'w, U: UpWriter + Drop> Book<'w, U> {
         requires act { act_of self.old.load.now writer step ≡ Some acts.Stop }
         requires plain { IsPlain self.old.load.now }
         requires ring { U.size self.old.up ≡ self.old.load.now.ring }
-        requires room { length self.old.items.items + 3 ≤ vec_capacity self.old.items }
+        requires room { length self.old.journal.items + 3 ≤ vec_capacity self.old.journal }
         requires within { length (U.sent self.old.up) + 17 ≤ U.limit self.old.up }
         requires later { self.old.last ≤ self.old.moment }
         requires few { self.old.pending + 1 < 2 ^ 32 }
         ensures kept { Holds U.sent U.freed self.old [] →
-            IsNextStep self.old.load.now (latest_first self.old.items.items) (Call writer step) →
+            IsNextStep self.old.load.now (latest_first self.old.journal.items) (Call writer step) →
             self.old.moment ≡ ticks_of self.old.load.now (Call writer step) + clock_of
-            self.old.load.now self.old.items.items → Holds U.sent U.freed self.new [] }
+            self.old.load.now self.old.journal.items → Holds U.sent U.freed self.new [] }
         ensures goes { Goes U.ring U.size U.limit U.sent U.freed U.way (Call writer step ∷ []) 3 17 self.old
             self.new }
         ensures later { self.new.last ≤ self.new.moment }
@@ -128,11 +128,12 @@ impl<'w, U: UpWriter + Drop> Book<'w, U> {
 
     /// What became of the last item, which is a call.
     fn last_answer(&self) -> Answer
-        requires { 0 < length self.now.items.items }
+        requires { 0 < length self.now.journal.items }
         ensures { (before : List Item) (item : Item) →
-            self.now.items.items ≡ before ++ item ∷ [] → result ≡ answer_of item.outcome }
+            self.now.journal.items ≡ before ++ item ∷ [] → result ≡ answer_of item.outcome }
     {
-        match self.items[self.items.len() - 1].outcome {
+        let items = self.journal.items();
+        match items[items.len() - 1].outcome {
             Outcome::Stored => Answer::Sent,
             Outcome::Refused => Answer::Refused,
             Outcome::Ignored => Answer::Ignored,
@@ -146,21 +147,21 @@ impl<'w, U: UpWriter + Drop> Book<'w, U> {
             × (act_of self.old.load.now writer step ≡ Some (acts.Event event)) }
         requires plain { IsPlain self.old.load.now }
         requires ring { U.size self.old.up ≡ self.old.load.now.ring }
-        requires room { length self.old.items.items + 2 ≤ vec_capacity self.old.items }
+        requires room { length self.old.journal.items + 2 ≤ vec_capacity self.old.journal }
         requires within { length (U.sent self.old.up) + packet_bytes self.old.load.now (Call writer step) ≤
             U.limit self.old.up }
         requires later { self.old.last ≤ self.old.moment }
         requires few { self.old.pending + 1 < 2 ^ 32 }
         ensures kept { Holds U.sent U.freed self.old [] →
-            IsNextStep self.old.load.now (latest_first self.old.items.items) (Call writer step) →
+            IsNextStep self.old.load.now (latest_first self.old.journal.items) (Call writer step) →
             self.old.moment ≡ ticks_of self.old.load.now (Call writer step) + clock_of
-            self.old.load.now self.old.items.items → Holds U.sent U.freed self.new [] }
+            self.old.load.now self.old.journal.items → Holds U.sent U.freed self.new [] }
         ensures goes { Goes U.ring U.size U.limit U.sent U.freed U.way (Call writer step ∷ []) 2 (packet_bytes
             self.old.load.now (Call writer step)) self.old self.new }
         ensures later { self.new.last ≤ self.new.moment }
         ensures pending { self.new.pending ≤ self.old.pending + 1 }
         ensures told { (before : List Item) × (item : Item)
-            × (self.new.items.items ≡ before ++ item ∷ []) × (item.origin ≡ Call writer step)
+            × (self.new.journal.items ≡ before ++ item ∷ []) × (item.origin ≡ Call writer step)
             × (result ≡ answer_of item.outcome) }
     {
         self.packet(Origin::Call { writer, step });
@@ -172,14 +173,14 @@ impl<'w, U: UpWriter + Drop> Book<'w, U> {
         requires step { step_of self.old.load.now writer place ≡ Some step.now }
         requires plain { IsPlain self.old.load.now }
         requires ring { U.size self.old.up ≡ self.old.load.now.ring }
-        requires room { length self.old.items.items + step_items step.now ≤ vec_capacity self.old.items }
+        requires room { length self.old.journal.items + step_items step.now ≤ vec_capacity self.old.journal }
         requires within { length (U.sent self.old.up) + step_bytes step.now ≤ U.limit self.old.up }
         requires later { self.old.last ≤ self.old.moment }
         requires few { self.old.pending + 4 < 2 ^ 32 }
         requires ticks { self.old.moment + step.now.advance < 2 ^ 64 }
         ensures kept { Holds U.sent U.freed self.old [] →
-            IsNextStep self.old.load.now (latest_first self.old.items.items) (Call writer place) →
-            self.old.moment ≡ clock_of self.old.load.now self.old.items.items →
+            IsNextStep self.old.load.now (latest_first self.old.journal.items) (Call writer place) →
+            self.old.moment ≡ clock_of self.old.load.now self.old.journal.items →
             Holds U.sent U.freed self.new [] }
         ensures goes { Goes U.ring U.size U.limit U.sent U.freed U.way (Call writer place ∷ []) (step_items
             step.now) (step_bytes step.now) (record self.old {
@@ -189,7 +190,7 @@ impl<'w, U: UpWriter + Drop> Book<'w, U> {
         ensures moment { self.new.moment ≡ self.old.moment + step.now.advance }
         ensures later { self.new.last ≤ self.new.moment }
         ensures pending { self.new.pending ≤ self.old.pending + 4 }
-        ensures told { IsTold self.old.load.now self.new.items.items writer place result }
+        ensures told { IsTold self.old.load.now self.new.journal.items writer place result }
     {
         self.moment += step.advance;
         match &step.act {

@@ -1,4 +1,4 @@
-ghost use Rattle.std.specs.Prelude.{◌≡◌, []};
+ghost use Rattle.std.specs.Prelude.{◌≡◌, ◌<◌, [], ◌∷◌, ◌++◌, length, vec_capacity};
 
 use std::alloc::Global;
 use std::marker::Model;
@@ -65,18 +65,18 @@ pub struct Journal {
 }
 
 impl Model for Journal {
-    ghost use Rattle.std.specs.Prelude.{List};
+    ghost use Rattle.std.specs.Global.{Vec};
     ghost use Rattle.sv_recorder.specs.declared.journal.Item.{Item};
 
-    ghost Value = { List Item };
+    ghost Value = { Vec Item };
 
-    ghost view = { λ j. j.items.items };
+    ghost view = { λ j. j.items };
 }
 
 impl Journal {
     /// A journal without an item. Takes no memory.
     pub fn new(alloc: Global) -> Journal
-        ensures { result ≡ [] }
+        ensures { result.items ≡ [] }
     {
         Journal {
             items: Vec::new(alloc),
@@ -85,15 +85,24 @@ impl Journal {
 
     /// The items, the first one first.
     pub fn items(&self) -> &[Item]
-        ensures { result.now ≡ self.now }
+        ensures { result.now ≡ self.now.items }
     {
         self.items.as_slice()
     }
 
     /// A journal of these items.
     pub fn of(items: Vec<Item>) -> Journal
-        ensures { result ≡ items.items }
+        ensures { result ≡ items }
     {
         Journal { items }
+    }
+
+    /// One item more, for which there is room.
+    pub(crate) fn push_reserved(&mut self, item: Item)
+        requires room { length self.old.items < vec_capacity self.old }
+        ensures item { self.new.items ≡ self.old.items ++ item ∷ [] }
+        ensures capacity { vec_capacity self.new ≡ vec_capacity self.old }
+    {
+        self.items.push_reserved(item);
     }
 }

@@ -36,19 +36,19 @@ impl<'w, U: UpWriter + Drop> Book<'w, U> {
         requires formed { IsFormed self.old.load.now origin }
         requires plain { IsPlain self.old.load.now }
         requires ring { U.size self.old.up ≡ self.old.load.now.ring }
-        requires room { length self.old.items.items < vec_capacity self.old.items }
+        requires room { length self.old.journal.items < vec_capacity self.old.journal }
         requires within { length (U.sent self.old.up) + packet_bytes self.old.load.now origin ≤ U.limit
             self.old.up }
         requires later { self.old.last ≤ self.old.moment }
         requires on { self.old.on ≡ true }
         requires none { self.old.pending ≡ 0 }
         ensures kept { (owed rest : List Origin) → Holds U.sent U.freed self.old owed →
-            IsPacketHere self.old.load.now self.old.items.items owed origin self.old.moment rest →
+            IsPacketHere self.old.load.now self.old.journal.items owed origin self.old.moment rest →
             HoldsAs U.sent U.freed (not (is_stop_reply origin)) self.new rest }
         ensures goes { Goes U.ring U.size U.limit U.sent U.freed U.way (head_if origin) 2 (packet_bytes
             self.old.load.now origin) self.old self.new }
         ensures on { self.new.on ≡ true }
-        ensures last { IsLast origin self.new.items.items }
+        ensures last { IsLast origin self.new.journal.items }
         ensures later { self.new.last ≤ self.new.moment }
         ensures pending { self.new.pending ≤ 1 }
     {
@@ -64,7 +64,7 @@ impl<'w, U: UpWriter + Drop> Book<'w, U> {
         requires formed { IsFormed self.old.load.now origin }
         requires plain { IsPlain self.old.load.now }
         requires ring { U.size self.old.up ≡ self.old.load.now.ring }
-        requires room { length self.old.items.items + 2 ≤ vec_capacity self.old.items }
+        requires room { length self.old.journal.items + 2 ≤ vec_capacity self.old.journal }
         requires within { length (U.sent self.old.up) + packet_bytes self.old.load.now origin ≤ U.limit
             self.old.up }
         requires later { self.old.last ≤ self.old.moment }
@@ -72,12 +72,12 @@ impl<'w, U: UpWriter + Drop> Book<'w, U> {
         requires some { 0 < self.old.pending }
         requires few { self.old.pending + 1 < 2 ^ 32 }
         ensures kept { (owed rest : List Origin) → Holds U.sent U.freed self.old owed →
-            IsPacketHere self.old.load.now self.old.items.items owed origin self.old.moment rest →
+            IsPacketHere self.old.load.now self.old.journal.items owed origin self.old.moment rest →
             HoldsAs U.sent U.freed (not (is_stop_reply origin)) self.new rest }
         ensures goes { Goes U.ring U.size U.limit U.sent U.freed U.way (head_if origin) 2 (packet_bytes
             self.old.load.now origin) self.old self.new }
         ensures on { self.new.on ≡ true }
-        ensures last { IsLast origin self.new.items.items }
+        ensures last { IsLast origin self.new.journal.items }
         ensures later { self.new.last ≤ self.new.moment }
         ensures pending { self.new.pending ≤ self.old.pending + 1 }
     {
@@ -101,18 +101,18 @@ impl<'w, U: UpWriter + Drop> Book<'w, U> {
         requires formed { IsFormed self.old.load.now origin }
         requires plain { IsPlain self.old.load.now }
         requires ring { U.size self.old.up ≡ self.old.load.now.ring }
-        requires room { length self.old.items.items + 2 ≤ vec_capacity self.old.items }
+        requires room { length self.old.journal.items + 2 ≤ vec_capacity self.old.journal }
         requires within { length (U.sent self.old.up) + packet_bytes self.old.load.now origin ≤ U.limit
             self.old.up }
         requires later { self.old.last ≤ self.old.moment }
         requires few { self.old.pending + 1 < 2 ^ 32 }
         ensures kept { (owed rest : List Origin) → Holds U.sent U.freed self.old owed →
-            IsPacketHere self.old.load.now self.old.items.items owed origin self.old.moment rest →
+            IsPacketHere self.old.load.now self.old.journal.items owed origin self.old.moment rest →
             HoldsAs U.sent U.freed (self.old.on && not (is_stop_reply origin)) self.new rest }
         ensures goes { Goes U.ring U.size U.limit U.sent U.freed U.way (head_if origin) 2 (packet_bytes
             self.old.load.now origin) self.old self.new }
         ensures on { self.new.on ≡ self.old.on }
-        ensures last { IsLast origin self.new.items.items }
+        ensures last { IsLast origin self.new.journal.items }
         ensures later { self.new.last ≤ self.new.moment }
         ensures pending { self.new.pending ≤ self.old.pending + 1 }
     {

@@ -38,7 +38,7 @@ impl<'w, U: UpWriter + Drop> Model for Recorder<'w, U> {
 
     ghost view = { λ r. record {
       load = r.book.load.now;
-      items = r.book.items.items;
+      items = r.book.journal.items;
       ring = U.ring r.book.up;
       size = U.size r.book.up;
       limit = U.limit r.book.up;
@@ -47,9 +47,9 @@ impl<'w, U: UpWriter + Drop> Model for Recorder<'w, U> {
       way = U.way r.book.up;
     } };
 
-    ghost invariant = { λ r. IsRecorder r.book.load.now r.book.items.items
+    ghost invariant = { λ r. IsRecorder r.book.load.now r.book.journal.items
         (U.sent r.book.up) (U.freed r.book.up) (U.size r.book.up) (U.limit r.book.up)
-        r.book.on r.book.pending r.book.last r.book.moment r.place (vec_capacity r.book.items) };
+        r.book.on r.book.pending r.book.last r.book.moment r.place (vec_capacity r.book.journal) };
 }
 
 /// What is left of a recorder: its journal, and its end of the ring.
@@ -86,7 +86,7 @@ impl<'w, U: UpWriter + Drop> Recorder<'w, U> {
         let book = Book {
             load,
             up,
-            items,
+            journal: Journal::of(items),
             on: false,
             pending: 0,
             last: 0,
@@ -135,6 +135,13 @@ impl<'w, U: UpWriter + Drop> Recorder<'w, U> {
         self.book.moment
     }
 
+    /// What was recorded so far.
+    pub fn journal(&self) -> &Journal
+        ensures { result.now.items ≡ self.now.items }
+    {
+        &self.book.journal
+    }
+
     /// The next step of this writer's script: its ticks pass, and it records what it says. None
     /// where the script is through.
     pub fn section(&mut self, writer: u32) -> Option<Answer>
@@ -169,13 +176,17 @@ impl<'w, U: UpWriter + Drop> Recorder<'w, U> {
 
     /// The journal, and the end of the ring.
     pub fn finish(self) -> Finished<U>
-        ensures journal { result.journal ≡ self.entry.items }
+        ensures journal { result.journal.items ≡ self.entry.items }
         ensures sent { U.sent result.up ≡ self.entry.sent }
         ensures ring { U.ring result.up ≡ self.entry.ring }
+        ensures size { U.size result.up ≡ self.entry.size }
+        ensures limit { U.limit result.up ≡ self.entry.limit }
+        ensures freed { U.freed result.up ≡ self.entry.freed }
+        ensures way { U.way result.up ≡ self.entry.way }
     {
         let book = self.book;
         Finished {
-            journal: Journal::of(book.items),
+            journal: book.journal,
             up: book.up,
         }
     }

@@ -28,5 +28,5 @@ returns-then-not-self-clause-goes g c =
     let u = g.U.UpWriter in
     let old = c.args.self.now in
     let noted = goes-note u.ring u.size u.limit u.sent u.freed u.way old c.note.new.self c.args.origin Ignored c.note.ensures.rest c.note.ensures.capacity c.note.ensures.item (headed_one c.args.origin old.moment (u.freed old.up) Ignored)
-    refl (not_overflow c.args.origin c.requires.telling) (ignored_unwritten (latest_first old.items.items) c.args.origin old.moment (u.freed old.up) c.requires.telling) in
+    refl (not_overflow c.args.origin c.requires.telling) (ignored_unwritten (latest_first old.journal.items) c.args.origin old.moment (u.freed old.up) c.requires.telling) in
     goes-less u.ring u.size u.limit u.sent u.freed u.way old c.note.new.self (head_if c.args.origin) 1 2 0 (packet_bytes old.load.now c.args.origin) noted (omega arith) (omega arith)

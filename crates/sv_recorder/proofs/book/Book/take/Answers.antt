@@ -42,7 +42,7 @@ stop_within step is =
 pub returns-in-Event-clause-kept : goal.returns-in-Event-clause-kept
 returns-in-Event-clause-kept g c = λ k next clock.
     let old = c.args.self.now in
-    c.event.ensures.kept k next (clock_behind old.load.now c.args.writer c.args.place c.args.step.now old.moment (clock_of old.load.now old.items.items) c.requires.step clock)
+    c.event.ensures.kept k next (clock_behind old.load.now c.args.writer c.args.place c.args.step.now old.moment (clock_of old.load.now old.journal.items) c.requires.step clock)
 
 pub returns-in-Event-clause-goes : goal.returns-in-Event-clause-goes
 returns-in-Event-clause-goes g c =
@@ -63,7 +63,7 @@ returns-in-Event-clause-told g c =
 pub returns-in-Start-clause-kept : goal.returns-in-Start-clause-kept
 returns-in-Start-clause-kept g c = λ k next clock.
     let old = c.args.self.now in
-    c.start.ensures.kept k next (clock_behind old.load.now c.args.writer c.args.place c.args.step.now old.moment (clock_of old.load.now old.items.items) c.requires.step clock)
+    c.start.ensures.kept k next (clock_behind old.load.now c.args.writer c.args.place c.args.step.now old.moment (clock_of old.load.now old.journal.items) c.requires.step clock)
 
 pub returns-in-Start-clause-goes : goal.returns-in-Start-clause-goes
 returns-in-Start-clause-goes g c =

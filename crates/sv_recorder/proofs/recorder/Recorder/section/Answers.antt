@@ -6,7 +6,7 @@ use Rattle.sv_recorder.proofs.Placed as placed
 use Rattle.sv_recorder.proofs.recorder.Recorder.section.Goals as goal
 
 pub take-answer-requires-clause-few : goal.take-answer-requires-clause-few
-take-answer-requires-clause-few g c = omega (arith, c.self.invariant.held.pending_is, pending_few c.self.inside.book.items.items, c.self.invariant.few)
+take-answer-requires-clause-few g c = omega (arith, c.self.invariant.held.pending_is, pending_few c.self.inside.book.journal.items, c.self.invariant.few)
 
 pub returns-clause-section : goal.returns-clause-section
 returns-clause-section g c =

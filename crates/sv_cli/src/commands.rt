@@ -54,7 +54,7 @@ pub fn offline<S: Source, K: Sink>(
     err: &mut K,
     journal: &mut Journal,
 ) -> Status
-    requires { journal.old ≡ [] }
+    requires { journal.old.items ≡ [] }
 
     // The words alone are to blame.
     ensures usage { (result ≡ Status.Usage)
@@ -65,19 +65,19 @@ pub fn offline<S: Source, K: Sink>(
     // The file fixes a text and an end, and the status and what is written are those, up to a failure.
     ensures told { (name : List ℕ) → IsEvents words.now name →
         IfSome (S.held src.old name) (λ file. IsAnswer file (K.written out.old) (K.written out.new) result) }
-    ensures no_journal { (name : List ℕ) → IsEvents words.now name → journal.new ≡ [] }
+    ensures no_journal { (name : List ℕ) → IsEvents words.now name → journal.new.items ≡ [] }
 
     // What is recorded is the stream of a legal journal of the workload, in the order of a simulation.
     ensures recorded { (name : List ℕ) → IsRecord words.now name →
         IfSome (S.held src.old name)
-        (λ text. IsRecorded text (K.written out.old) (K.written out.new) journal.new result) }
+        (λ text. IsRecorded text (K.written out.old) (K.written out.new) journal.new.items result) }
 
     // A file that can be read is: it is begun once, and only its own device is to blame.
     ensures begins { result ≢ Status.Usage → S.begins src.new ≡ one_more (S.begins src.old) }
     ensures sure { (command name : List ℕ) → texts words.now ≡ command ∷ name ∷ [] →
         S.sure src.old name → result ≢ Status.ReadFault }
     ensures read { result ≡ Status.ReadFault →
-        Rose (S.faults src.old) (S.faults src.new) × (out.new ≡ out.old) × (journal.new ≡ []) }
+        Rose (S.faults src.old) (S.faults src.new) × (out.new ≡ out.old) × (journal.new.items ≡ []) }
     ensures read_kept { result ≢ Status.ReadFault → S.faults src.new ≡ S.faults src.old }
     ensures long { (name : List ℕ) (limit : ℕ) → IsEvents words.now name →
         result ≡ Status.TooLong limit → (limit ≡ 2 ^ 33) × (out.new ≡ out.old) }

@@ -93,8 +93,8 @@ fn play(recorder: &mut Recorder<'_, PlainRing>)
 /// The simulation of a workload of one writer: its journal, and the ring with all bytes that were sent.
 fn simulate(alloc: Global, load: &Workload) -> Result<Finished<PlainRing>, NoMemory>
     requires { (steps : List Step) × (load.now ≡ one_writer steps) }
-    ensures simulated { IfOk result (λ run. IsSimulated load.now run.journal) }
-    ensures sent { IfOk result (λ run. run.up.sent ≡ stream_of load.now run.journal) }
+    ensures simulated { IfOk result (λ run. IsSimulated load.now run.journal.items) }
+    ensures sent { IfOk result (λ run. run.up.sent ≡ stream_of load.now run.journal.items) }
 {
     let up = PlainRing::new(alloc, load.ring(), load.need().bytes)?;
     let mut recorder = Recorder::new(alloc, load, up)?;
@@ -121,8 +121,8 @@ fn record_load<K: Sink>(
     journal: &mut Journal,
 ) -> Status
     requires one { (steps : List Step) × (load.now ≡ one_writer steps) }
-    requires empty { journal.old ≡ [] }
-    ensures told { IsPlayed load.now (K.written out.old) (K.written out.new) journal.new result }
+    requires empty { journal.old.items ≡ [] }
+    ensures told { IsPlayed load.now (K.written out.old) (K.written out.new) journal.new.items result }
     ensures fault { result ≡ Status.WriteFault → Rose (K.faults out.old) (K.faults out.new) }
     ensures kept { result ≢ Status.WriteFault → K.faults out.new ≡ K.faults out.old }
 {
@@ -142,8 +142,8 @@ fn record_load<K: Sink>(
 /// Records the workload that the text says.
 fn record_text<K: Sink>(alloc: Global, text: &[u8], out: &mut K, journal: &mut Journal) -> Status
     requires short { length text.now ≤ 2 ^ 26 }
-    requires empty { journal.old ≡ [] }
-    ensures told { IsRecorded text.now (K.written out.old) (K.written out.new) journal.new result }
+    requires empty { journal.old.items ≡ [] }
+    ensures told { IsRecorded text.now (K.written out.old) (K.written out.new) journal.new.items result }
     ensures which { IsRunEnd result }
     ensures fault { result ≡ Status.WriteFault → Rose (K.faults out.old) (K.faults out.new) }
     ensures kept { result ≢ Status.WriteFault → K.faults out.new ≡ K.faults out.old }
@@ -163,15 +163,15 @@ pub fn record<S: Source, K: Sink>(
     out: &mut K,
     journal: &mut Journal,
 ) -> Status
-    requires { journal.old ≡ [] }
+    requires { journal.old.items ≡ [] }
     ensures told { IfSome (S.held src.old name.now)
-        (λ text. IsRecorded text (K.written out.old) (K.written out.new) journal.new result) }
+        (λ text. IsRecorded text (K.written out.old) (K.written out.new) journal.new.items result) }
     ensures usage { result ≢ Status.Usage }
 
     ensures begins { S.begins src.new ≡ one_more (S.begins src.old) }
     ensures sure { S.sure src.old name.now → result ≢ Status.ReadFault }
     ensures read { result ≡ Status.ReadFault →
-        Rose (S.faults src.old) (S.faults src.new) × (out.new ≡ out.old) × (journal.new ≡ []) }
+        Rose (S.faults src.old) (S.faults src.new) × (out.new ≡ out.old) × (journal.new.items ≡ []) }
     ensures read_kept { result ≢ Status.ReadFault → S.faults src.new ≡ S.faults src.old }
 
     ensures long { (limit : ℕ) → result ≡ Status.TooLong limit → (limit ≡ 2 ^ 26) × (out.new ≡ out.old) }

@@ -202,11 +202,10 @@ module _ {U : Type 0} (ring : U → List (List ℕ)) (size limit : U → ℕ) (s
       × AreFreed old.load.now (latest_first old.journal.items) (made origin old.moment (freed mid.up) (outcome_if stored) ∷ []) (way old.up) (freed old.up) (way mid.up) (freed mid.up)
   write-moved old mid origin block stored written fits w moves stream is_item block_is =
       let i : Item = made origin old.moment (freed mid.up) (outcome_if stored) in
-      let this : Written old.load.now old.journal.items (sent old.up) block i stored = record { stream = stream; written = is_item; block_is = block_is; outcome = refl } in
-      (
+      let this : Written old.load.now old.journal.items (sent old.up) block i stored = record { stream = stream; written = is_item; block_is = block_is; outcome = refl } in (
         written-stream old.load.now old.journal.items (sent old.up) (sent mid.up) block i stored this w.grown ∙ sym (ap (λ (l : Load). stream_of l mid.journal.items) (same_load old mid written) ∙ ap (stream_of old.load.now) w.item),
         written-freed old.load.now old.journal.items (sent old.up) block i stored (way old.up) (way mid.up) (freed old.up) this moves.0
-        (subst (λ (n : ℕ). Moves (way old.up) n (freed old.up) (freed mid.up) (sent old.up) block (wrote_if stored (room_of n (sent old.up) (freed mid.up)))) fits moves.1),
+            (subst (λ (n : ℕ). Moves (way old.up) n (freed old.up) (freed mid.up) (sent old.up) block (wrote_if stored (room_of n (sent old.up) (freed mid.up)))) fits moves.1),
       )
 
   pub plain-goes : (old mid new : Book U) (origin : Origin) (block : List ℕ) (stored : Bool)
@@ -238,8 +237,7 @@ module _ {U : Type 0} (ring : U → List (List ℕ)) (size limit : U → ℕ) (s
         short = omega (arith, one, short, bytes_behind old.load.now origin fine);
         moved = λ s.
             let m = write-moved old mid origin block stored written fits w moves s.stream (packet_written earlier origin old.moment (freed mid.up) stored telling s.ready)
-            (formed ∙ sym (block_here old.load.now earlier origin old.moment (freed mid.up) old.last (outcome_if stored) telling s.last)) in
-            (
+            (formed ∙ sym (block_here old.load.now earlier origin old.moment (freed mid.up) old.last (outcome_if stored) telling s.last)) in (
               record {
                 stream = m.0;
                 last = settled_last earlier i old.moment old.last mid.moment mid.last stored refl refl (not_sync origin telling) (same_moment old mid written) (ap (λ (b : Book U). b.last) written ∙ s.last) ∙ sym (ap last_moment latest);
@@ -286,17 +284,16 @@ module _ {U : Type 0} (ring : U → List (List ℕ)) (size limit : U → ℕ) (s
         moved = λ s.
             let m = write-moved old mid (Overflow old.pending) overflow false written fits w moves s.stream refl (formed ∙ ap (packet_block old.load.now (Overflow old.pending) old.moment) s.last) in
             let alone = unwritten-freed old.load.now (latest_first mid.journal.items) i (way mid.up) (freed mid.up)
-            (refused_unwritten (latest_first mid.journal.items) origin mid.moment (freed mid.up) telling (ap is_after_refused_overflow behind)) refl in
-            (
+            (refused_unwritten (latest_first mid.journal.items) origin mid.moment (freed mid.up) telling (ap is_after_refused_overflow behind)) refl in (
               record {
                 stream = ap sent up ∙ unwritten-stream mid.load.now mid.journal.items (sent mid.up) i m.0 refl ∙ sym (ap (λ (l : Load). stream_of l new.journal.items) load ∙ ap (stream_of mid.load.now) item);
                 last = ap (λ (b : Book U). b.last) noted ∙ ap (λ (b : Book U). b.last) written ∙ s.last
-                ∙ sym (ap last_moment latest ∙ last_moment-other (latest_first mid.journal.items) i refl ∙ ap last_moment behind ∙ last_moment-other earlier o refl);
+                    ∙ sym (ap last_moment latest ∙ last_moment-other (latest_first mid.journal.items) i refl ∙ ap last_moment behind ∙ last_moment-other earlier o refl);
                 ready = ap is_after_refused_overflow latest ∙ ap (λ (b : Bool). b && true) (not_overflow origin telling);
               },
               subst (λ (u : U). AreFreed old.load.now earlier (o ∷ i ∷ []) (way old.up) (freed old.up) (way u) (freed u)) (sym up)
-              (freed-append old.load.now old.journal.items (o ∷ []) (i ∷ []) (way old.up) (way mid.up) (way mid.up) (freed old.up) (freed mid.up) (freed mid.up) m.1
-              (subst (λ (is : List Item). AreFreed old.load.now (latest_first is) (i ∷ []) (way mid.up) (freed mid.up) (way mid.up) (freed mid.up)) w.item alone)),
+                  (freed-append old.load.now old.journal.items (o ∷ []) (i ∷ []) (way old.up) (way mid.up) (way mid.up) (freed old.up) (freed mid.up) (freed mid.up) m.1
+                  (subst (λ (is : List Item). AreFreed old.load.now (latest_first is) (i ∷ []) (way mid.up) (freed mid.up) (way mid.up) (freed mid.up)) w.item alone)),
             );
       }
 
@@ -343,17 +340,16 @@ module _ {U : Type 0} (ring : U → List (List ℕ)) (size limit : U → ℕ) (s
             let block_is : block ≡ packet_block first.load.now origin first.moment first.moment = formed2 ∙ sym (ap (λ (l : Load). packet_block l origin first.moment first.moment) first_load ∙ ap (λ (n : ℕ). packet_block old.load.now origin n n) first_moment) in
             let m2 = write-moved first second origin block stored again (same.1 ∙ fits ∙ sym (ap (λ (l : Load). l.ring) first_load)) w moves2 m.0
             (packet_written (latest_first first.journal.items) origin first.moment (freed second.up) stored telling (ap is_after_refused_overflow behind))
-            (block_is ∙ sym (block_here first.load.now (latest_first first.journal.items) origin first.moment (freed second.up) first.moment (outcome_if stored) telling (sym last_first))) in
-            (
+            (block_is ∙ sym (block_here first.load.now (latest_first first.journal.items) origin first.moment (freed second.up) first.moment (outcome_if stored) telling (sym last_first))) in (
               record {
                 stream = m2.0;
                 last = either stored second.moment ∙ same_moment first second again
-                ∙ sym (ap last_moment latest ∙ last_again (latest_first first.journal.items) i first.moment stored refl refl (not_sync origin telling) last_first);
+                    ∙ sym (ap last_moment latest ∙ last_again (latest_first first.journal.items) i first.moment stored refl refl (not_sync origin telling) last_first);
                 ready = ap is_after_refused_overflow latest ∙ ap (λ (b : Bool). b && is_refused (outcome_if stored)) (not_overflow origin telling);
               },
               freed-append old.load.now old.journal.items (o ∷ []) (i ∷ []) (way old.up) (way first.up) (way second.up) (freed old.up) (freed first.up) (freed second.up) m.1
-              (subst (λ (is : List Item). AreFreed old.load.now (latest_first is) (i ∷ []) (way first.up) (freed first.up) (way second.up) (freed second.up)) v.item
-              (subst (λ (l : Load). AreFreed l (latest_first first.journal.items) (i ∷ []) (way first.up) (freed first.up) (way second.up) (freed second.up)) first_load m2.1)),
+                  (subst (λ (is : List Item). AreFreed old.load.now (latest_first is) (i ∷ []) (way first.up) (freed first.up) (way second.up) (freed second.up)) v.item
+                  (subst (λ (l : Load). AreFreed l (latest_first first.journal.items) (i ∷ []) (way first.up) (freed first.up) (way second.up) (freed second.up)) first_load m2.1)),
             );
       })
     where

@@ -1,17 +1,17 @@
 -- What is known to be freed, from one item to the next.
-use Rattle.std.proofs.Common.{◌≡◌, ℕ, Bool, true, false, not, ◌&&◌, ◌||◌, cond, List, [], ◌∷◌, ◌++◌, refl, sym, ap, ◌∙◌, subst, append_assoc, append-nil, replicate}
+use Rattle.std.proofs.Common.{◌≡◌, ℕ, Bool, true, false, not, cond, List, [], ◌∷◌, ◌++◌, refl, sym, ap, ◌∙◌, subst, append_assoc, append-nil}
 use Rattle.std.specs.Prelude.{All, IsTrue, if◌then◌else◌}
 use Rattle.std.proofs.lemmas.List.Elements.{All-nil, All-cons}
 use Rattle.sv_ring.specs.Ring.{Way, Still, way_after, room_of, Moves}
 use Rattle.sv_workload.specs.Load.{Load}
 use Rattle.sv_recorder.specs.declared.journal.Origin.{Origin}
 use Rattle.sv_recorder.specs.declared.journal.Origin.TheVariants.{Call, Sync, Reply, Overflow, Command}
-use Rattle.sv_recorder.specs.declared.journal.Outcome.TheVariants.{Stored, Refused, Ignored, Handled}
+use Rattle.sv_recorder.specs.declared.journal.Outcome.TheVariants.{Refused, Ignored}
 use Rattle.sv_recorder.specs.declared.journal.Item.{Item}
-use Rattle.sv_recorder.specs.Items.{latest_first, is_stored, is_written, is_after_refused_overflow, block_of, stream_before, room_at, last_moment}
+use Rattle.sv_recorder.specs.Items.{latest_first, is_stored, is_written, is_after_refused_overflow, block_of, stream_before, room_at}
 use Rattle.sv_recorder.specs.Stream.{stream_of}
-use Rattle.sv_recorder.specs.Freed.{wrote_if, IsFreed, way_behind, AreFreed}
-use Rattle.sv_recorder.specs.Writes.{made, outcome_if, packet_block, is_telling}
+use Rattle.sv_recorder.specs.Freed.{wrote_if, way_behind, AreFreed}
+use Rattle.sv_recorder.specs.Writes.{made, outcome_if, is_telling}
 use Rattle.sv_recorder.proofs.Steps.{latest_first-push, stream_of-push}
 
 -- over some items, and then over those behind them

@@ -155,12 +155,12 @@ module _ {U : Type 0} (ring : U → List (List ℕ)) (size limit : U → ℕ) (s
         moved = λ s. (
           record {
             stream = ap sent up ∙ unwritten-stream old.load.now old.journal.items (sent old.up) i s.stream not_stored
-            ∙ sym (ap (λ (b : Book U). stream_of b.load.now new.journal.items) changed ∙ ap (stream_of old.load.now) item);
+                ∙ sym (ap (λ (b : Book U). stream_of b.load.now new.journal.items) changed ∙ ap (stream_of old.load.now) item);
             last = ap (λ (b : Book U). b.last) changed ∙ s.last ∙ sym (ap last_moment latest ∙ last_moment-other (latest_first old.journal.items) i (ap (λ (b : Bool). b && not (is_sync origin)) not_stored));
             ready = ap is_after_refused_overflow latest ∙ ap (λ (b : Bool). b && is_refused outcome) not_overflow;
           },
           subst (λ (u : U). AreFreed old.load.now (latest_first old.journal.items) (i ∷ []) (way old.up) (freed old.up) (way u) (freed u)) (sym up)
-          (unwritten-freed old.load.now (latest_first old.journal.items) i (way old.up) (freed old.up) not_written refl),
+              (unwritten-freed old.load.now (latest_first old.journal.items) i (way old.up) (freed old.up) not_written refl),
         );
       }
 

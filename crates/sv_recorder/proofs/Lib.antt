@@ -1,5 +1,6 @@
 pub mod Short
 pub mod Alone
+pub mod Moving
 pub mod Refusals
 pub mod Restarted
 pub mod Asked

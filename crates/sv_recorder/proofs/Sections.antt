@@ -1,8 +1,7 @@
 -- The books of the groups of a step.
 use Rattle.std.proofs.Common.{◌≡◌, ℕ, ◌+◌, ◌*◌, ◌<◌, ◌≤◌, Bool, true, false, not, ◌&&◌, List, [], ◌∷◌, ◌++◌, length, drop, refl, sym, ap, ◌∙◌, subst, arith, replicate, vec_capacity, inr}
-use Rattle.std.specs.Prelude.{filter, map, Some}
-use Rattle.std.proofs.lemmas.List.Elements.{All-nil, All-cons}
-use Rattle.sv_ring.specs.Ring.{Way, Still}
+use Rattle.std.specs.Prelude.{map, Some}
+use Rattle.sv_ring.specs.Ring.{Way}
 use Rattle.sv_workload.specs.declared.load.Act.{Act}
 use Rattle.sv_workload.specs.declared.load.Act.TheVariants as acts
 use Rattle.std.specs.Option.{option_map, option_map_or}
@@ -13,18 +12,17 @@ use Rattle.sv_recorder.specs.declared.book.Book.{Book}
 use Rattle.sv_recorder.specs.declared.journal.Kind.{Kind}
 use Rattle.sv_recorder.specs.declared.journal.Kind.TheVariants as kinds
 use Rattle.sv_recorder.specs.declared.journal.Origin.{Origin}
-use Rattle.sv_recorder.specs.declared.journal.Origin.TheVariants.{Call, Sync, Reply, Overflow, Command}
-use Rattle.sv_recorder.specs.declared.journal.Outcome.{Outcome}
+use Rattle.sv_recorder.specs.declared.journal.Origin.TheVariants.{Call, Sync, Reply}
 use Rattle.sv_recorder.specs.declared.journal.Outcome.TheVariants.{Handled}
 use Rattle.sv_recorder.specs.declared.journal.Item.{Item}
 use Rattle.sv_recorder.specs.Items.{latest_first, last_moment, is_stored, is_stop_reply, is_after_refused_overflow}
-use Rattle.sv_recorder.specs.Legal.{is_head, origins_of, IsNextStep, ticks_of, is_control}
+use Rattle.sv_recorder.specs.Legal.{IsNextStep, ticks_of, is_control}
 use Rattle.sv_recorder.specs.Kept.{Keeps}
 use Rattle.sv_recorder.specs.Plain.{IsPlain}
 use Rattle.sv_recorder.specs.Clock.{clock_of, is_start_kind, reply_of}
 use Rattle.sv_recorder.specs.Replies.{AreReplied}
 use Rattle.sv_recorder.specs.Writes.{Writes, MovesBy, made, outcome_if, IsPacketHere}
-use Rattle.sv_recorder.specs.Book.{Holds, HoldsAs, Goes, head_if}
+use Rattle.sv_recorder.specs.Book.{Holds, HoldsAs, Goes}
 use Rattle.sv_recorder.proofs.Entries.{stored_length, same_load, same_moment, write-moved}
 use Rattle.sv_recorder.proofs.Steps.{latest_first-push, last_moment-other}
 use Rattle.sv_recorder.proofs.Going.{goes-then, clock-goes}
@@ -52,15 +50,14 @@ module _ {U : Type 0} (ring : U → List (List ℕ)) (size limit : U → ℕ) (s
         headed = refl;
         few = omega arith;
         short = stored_length (sent old.up) (sent new.up) (replicate 10 0) stored w.grown;
-        moved = λ s. let m = write-moved ring size limit sent freed way old new Sync (replicate 10 0) stored written fits w moves s.stream refl refl in
-            (
-              record {
-                stream = m.0;
-                last = ap (λ (b : Book U). b.last) written ∙ s.last ∙ sym (ap last_moment latest ∙ last_moment-other (latest_first old.journal.items) i (never (is_stored (outcome_if stored))));
-                ready = ap is_after_refused_overflow latest;
-              },
-              m.1,
-            );
+        moved = λ s. let m = write-moved ring size limit sent freed way old new Sync (replicate 10 0) stored written fits w moves s.stream refl refl in (
+          record {
+            stream = m.0;
+            last = ap (λ (b : Book U). b.last) written ∙ s.last ∙ sym (ap last_moment latest ∙ last_moment-other (latest_first old.journal.items) i (never (is_stored (outcome_if stored))));
+            ready = ap is_after_refused_overflow latest;
+          },
+          m.1,
+        );
       }
     where
       never : (b : Bool) → (b && false) ≡ false

@@ -1,4 +1,4 @@
-use Rattle.std.proofs.Common.{◌≡◌, ◌∙◌, sym, ap, subst}
+use Rattle.std.proofs.Common.{◌∙◌, sym, ap, subst}
 use Rattle.std.specs.Prelude.{List, ℕ, ◌++◌}
 use Rattle.std.specs.Io.KnownBytes.{Appends}
 use Rattle.sv_cli.specs.Recorded.{header}

@@ -1,9 +1,10 @@
 -- Bytes read piece by piece.
-use Rattle.std.proofs.Common.{◌≡◌, ℕ, ◌+◌, ◌≤◌, List, [], ◌++◌, length, take, drop, Option, Some, None, sym, ap, ◌∙◌, append_assoc, arith, length-append}
+use Rattle.std.proofs.Common.{◌≡◌, ℕ, zero, suc, ◌+◌, ◌≤◌, List, [], ◌∷◌, ◌++◌, length, take, drop, Option, Some, None, refl, sym, subst, ap, ◌∙◌, append_assoc, arith, length-append}
 use Rattle.std.specs.Prelude.{min, ◌<◌}
 use Rattle.std.proofs.lemmas.List.{drop-drop, take_at, length-drop, length-take, take-append-drop, nil_from_length}
 use Rattle.std.specs.Io.KnownBytes.{Consumes}
 use Rattle.sv_base.specs.Streams.{ConsumesMore}
+use borrow.Rule.Slice.PartMut.{put_mid}
 
 -- a read copies a front of what is left
 pub read_moves : (bytes rest copied tail : List ℕ) (at count size : ℕ) → rest ≡ drop at bytes → copied ≡ take count rest → count ≡ min (length rest) size → 0 < size
@@ -16,7 +17,7 @@ read_moves bytes rest copied tail at count size left copy least some =
       λ none more. sym behind ∙ nil_from_length (drop count rest) (omega (arith, length-drop count rest)),
     )
 
-Consumes-then : (a b c : Option (List ℕ)) (x y : List ℕ) → Consumes a b x → Consumes b c y → Consumes a c (x ++ y)
+pub Consumes-then : (a b c : Option (List ℕ)) (x y : List ℕ) → Consumes a b x → Consumes b c y → Consumes a c (x ++ y)
 Consumes-then None b c x y p q = tt
 Consumes-then (Some s) None c x y p q = absurd p
 Consumes-then (Some s) (Some t) None x y p q = absurd q
@@ -26,3 +27,23 @@ Consumes-then (Some s) (Some t) (Some u) x y p q = p ∙ ap (λ (k : List ℕ). 
 pub ConsumesMore-from : (a b c : Option (List ℕ)) (bytes buf : List ℕ) (count limit : ℕ) → Consumes a b bytes → Consumes b c (take count buf) → count ≤ length buf → limit < length bytes + count → ConsumesMore a c limit
 ConsumesMore-from a b c bytes buf count limit p q within more =
     (bytes ++ take count buf, Consumes-then a b c bytes (take count buf) p q, omega (arith, length-append bytes (take count buf), length-take count buf))
+
+-- behind a list, so many elements of the next
+take-past : (xs ys : List ℕ) (n : ℕ) → take (length xs + n) (xs ++ ys) ≡ xs ++ take n ys
+take-past [] ys n = let none : 0 + n ≡ n = omega arith in ap (λ (m : ℕ). take m ys) none
+take-past (x ∷ xs) ys n = let next : suc (length xs) + n ≡ suc (length xs + n) = omega arith in ap (λ (m : ℕ). take m (x ∷ (xs ++ ys))) next ∙ ap (λ (zs : List ℕ). x ∷ zs) (take-past xs ys n)
+
+take-front : (xs ys : List ℕ) (n : ℕ) → n ≤ length xs → take n (xs ++ ys) ≡ take n xs
+take-front xs ys zero within = refl
+take-front [] ys (suc n) within = absurd (omega (arith, within))
+take-front (x ∷ xs) ys (suc n) within = ap (λ (zs : List ℕ). x ∷ zs) (take-front xs ys n (omega (arith, within)))
+
+-- the front of a buffer is filled further
+pub filled_further : (a b c : Option (List ℕ)) (buf piece : List ℕ) (filled size count : ℕ) → Consumes a b (take filled buf) → Consumes b c (take count piece) → filled ≤ length buf → count ≤ length piece
+    → Consumes a c (take (filled + count) (put_mid filled size buf piece))
+filled_further a b c buf piece filled size count p q within few =
+    let behind = drop size (drop filled buf) in
+    let long : length (take filled buf) ≡ filled = omega (arith, length-take filled buf, within) in
+    let front : take (filled + count) (put_mid filled size buf piece) ≡ take filled buf ++ take count piece =
+    ap (λ (n : ℕ). take (n + count) (put_mid filled size buf piece)) (sym long) ∙ take-past (take filled buf) (piece ++ behind) count ∙ ap (λ (zs : List ℕ). take filled buf ++ zs) (take-front piece behind count few) in
+    subst (Consumes a c) (sym front) (Consumes-then a b c (take filled buf) (take count piece) p q)

@@ -1,7 +1,7 @@
-ghost use Rattle.std.specs.Prelude.{◌≡◌, ◌≢◌, ◌≤◌, IsTrue, Err, vec_len, IfOk, OnOk, OnErr, IsErrOf};
+ghost use Rattle.std.specs.Prelude.{◌≡◌, ◌≢◌, ◌<◌, ◌≤◌, IsTrue, IsOk, Err, length, take, vec_len, IfOk, OnOk, OnErr, IsErrOf};
 ghost use Rattle.std.specs.Io.KnownBytes.{Appends, Consumes, IsAtEnd};
 ghost use Rattle.sv_base.specs.Causes.{Rose, HasCause};
-ghost use Rattle.sv_base.specs.Copies.{is_left_open};
+ghost use Rattle.sv_base.specs.Copies.{is_left_open, is_filled};
 ghost use Rattle.sv_base.specs.Streams.{IsSameFiles, AppendsPart, ConsumesMore};
 
 use crate::failed::Failed;
@@ -38,6 +38,38 @@ pub fn put_all<K: Sink>(out: &mut K, bytes: &[u8]) -> Result<(), Failed>
         rest = &rest[count..];
     }
     Ok(())
+}
+
+/// Reads bytes of the open file until the buffer is full or the file ends, and says how many: fewer
+/// than the buffer has room for only at the end of the file, which closes it.
+///
+/// Answers [`Failed`] only where the device failed. Then bytes that were read are lost.
+pub fn fill<S: Source>(src: &mut S, buf: &mut [u8]) -> Result<usize, Failed>
+    requires open { IsTrue (S.opened src.old) }
+    requires room { 0 < length buf.old }
+    ensures same { length buf.new ≡ length buf.old }
+    ensures bound { IfOk result (λ count. count ≤ length buf.old) }
+    ensures bytes { IfOk result (λ count. Consumes (S.left src.old) (S.left src.new) (take count buf.new)) }
+    ensures end { IfOk result (λ count. count < length buf.old → IsAtEnd (S.left src.new)) }
+    ensures opened { S.opened src.new ≡ is_filled (length buf.old) result }
+
+    // What no answer changes.
+    ensures files { IsSameFiles (S.held src.old) (S.held src.new) (S.sure src.old) (S.sure src.new) }
+    ensures begins { S.begins src.new ≡ S.begins src.old }
+
+    // A fault has its cause, and there is none where the file is safe.
+    ensures safe { S.safe src.old → IsOk result × S.safe src.new }
+    ensures cause { HasCause (S.faults src.old) (S.faults src.new) result }
+{
+    let mut filled = 0;
+    while filled < buf.len() {
+        let count = src.read(&mut buf[filled..])?;
+        if count == 0 {
+            return Ok(filled);
+        }
+        filled += count;
+    }
+    Ok(filled)
 }
 
 /// Reads the open file to its end, if no more than `limit` bytes of it are left.

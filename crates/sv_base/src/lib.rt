@@ -14,7 +14,7 @@ mod out_sink;
 mod sink;
 mod source;
 
-pub use copies::{ReadAll, put_all, read_all};
+pub use copies::{ReadAll, fill, put_all, read_all};
 pub use failed::Failed;
 pub use file_source::FileSource;
 pub use mem_sink::MemSink;

@@ -50,6 +50,33 @@ fn a_source_fails_where_it_is_told_to(rt: HostRuntime) -> Result<(), Fail> {
 }
 
 #[test]
+fn a_buffer_is_filled_as_far_as_the_file_goes(rt: HostRuntime) -> Result<(), Fail> {
+    let alloc = rt.alloc();
+    for (fails, name, want) in [
+        ([].as_slice(), "a", [Ok(3), Ok(2)]),
+        ([].as_slice(), "b", [Ok(0), Err(Failed)]),
+        ([2].as_slice(), "a", [Err(Failed), Err(Failed)]),
+        ([3].as_slice(), "a", [Ok(3), Err(Failed)]),
+        ([4].as_slice(), "a", [Ok(3), Err(Failed)]),
+    ] {
+        let mut src = MemSource::new(some_files(alloc)?, fails.to_vec(alloc)?);
+        assert_eq!(rt; src.begin(name), Ok(()));
+        let mut buf = [0; 3];
+        let first = fill(&mut src, &mut buf);
+        assert_eq!(rt; first, want[0], "the first of {name}, {fails:?} failing");
+        if first == Ok(3) {
+            assert_eq!(rt; buf, [1, 2, 3]);
+            assert_eq!(rt;
+                fill(&mut src, &mut buf),
+                want[1],
+                "the second of {name}, {fails:?} failing"
+            );
+        }
+    }
+    Ok(())
+}
+
+#[test]
 fn a_sink_takes_what_there_is_room_for(rt: HostRuntime) -> Result<(), Fail> {
     let alloc = rt.alloc();
     for (room, fails, want, bytes) in [

@@ -1,11 +1,13 @@
 -- The words of a command say which one it is, and which file.
-use Rattle.std.proofs.Common.{◌≡◌, ℕ, List, [], ◌∷◌, Option, refl, sym, ap, ◌∙◌, subst, arith}
+use Rattle.std.proofs.Common.{◌≡◌, ◌<◌, ℕ, List, [], ◌∷◌, Option, refl, sym, ap, ◌∙◌, subst, arith}
 use Rattle.std.specs.Prelude.{IfSome, codes}
 use Rattle.std.specs.Borrow.{Bor}
 use Rattle.sv_recorder.specs.declared.journal.Item.{Item}
 use Rattle.sv_cli.specs.declared.status.Status.{Status}
 use Rattle.sv_cli.specs.Recorded.{IsRecorded}
-use Rattle.sv_cli.specs.Words.{IsEvents, IsRecord}
+use Rattle.sv_cli.specs.declared.telling.Kind.{Kind}
+use Rattle.sv_cli.specs.declared.telling.Kind.TheVariants.{Events, Check}
+use Rattle.sv_cli.specs.Words.{IsShow, IsRecord}
 
 -- the first byte of the first word
 abbrev first_byte : List (List ℕ) → ℕ
@@ -13,11 +15,12 @@ first_byte [] = 0
 first_byte ([] ∷ words) = 0
 first_byte ((b ∷ bytes) ∷ words) = b
 
-other_byte : (a b : ℕ) → a ≡ 101 → b ≡ 114 → a ≡ b → ⊥
-other_byte a b p q e = omega arith
+other_byte : (a b : ℕ) → a < b → a ≡ b → ⊥
+other_byte a b less e = omega (arith, less, e)
 
-pub not_both : (words : List (Bor (List ℕ))) (a b : List ℕ) → IsEvents words a → IsRecord words b → ⊥
-not_both words a b p q = other_byte (first_byte (codes "events" ∷ a ∷ [])) (first_byte (codes "record" ∷ b ∷ [])) refl refl (ap first_byte (sym p ∙ q))
+pub not_both : (words : List (Bor (List ℕ))) (kind : Kind) (a b : List ℕ) → IsShow words kind a → IsRecord words b → ⊥
+not_both words Events a b p q = let e : 101 ≡ first_byte (codes "record" ∷ b ∷ []) = ap first_byte (sym p ∙ q) in other_byte 101 114 (omega arith) e
+not_both words Check a b p q = let e : 99 ≡ first_byte (codes "record" ∷ b ∷ []) = ap first_byte (sym p ∙ q) in other_byte 99 114 (omega arith) e
 
 pub same_name : (words : List (Bor (List ℕ))) (a b : List ℕ) → IsRecord words a → IsRecord words b → a ≡ b
 same_name words a b p q = cc

@@ -1,7 +1,4 @@
-pub mod Joined
-pub mod UnderWay
-pub mod Outcomes
-pub mod Exists
+pub mod Parts
 pub mod Sections
 pub mod OneWriter
 pub mod Made
@@ -11,3 +8,6 @@ pub mod NotStopped
 pub mod Narrow
 pub mod Playing
 pub mod Keywords
+pub mod Given
+pub mod Told
+pub mod Answering

@@ -1,12 +1,12 @@
 pub mod Status
 pub mod Words
-pub mod Lines
-pub mod Recording
-pub mod Outcome
-pub mod Growth
-pub mod Progress
 pub mod ErrorLine
 pub mod Turns
 pub mod Order
 pub mod Simulated
 pub mod Recorded
+pub mod Texts
+pub mod Telling
+pub mod Answer
+pub mod Reading
+pub mod Shown

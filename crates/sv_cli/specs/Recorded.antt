@@ -10,7 +10,7 @@ use Rattle.sv_recorder.specs.Items.{is_start}
 use Rattle.sv_recorder.specs.Stream.{stream_of}
 use Rattle.sv_cli.specs.Simulated.{IsSimulated}
 use Rattle.sv_cli.specs.declared.status.Status.{Status}
-use Rattle.sv_cli.specs.declared.status.Status.TheVariants.{Done, Usage, ReadFault, WriteFault, NoSync, TooLong, NoMemory, Unbuilt}
+use Rattle.sv_cli.specs.declared.status.Status.TheVariants.{Done, Usage, ReadFault, WriteFault, Damaged, Truncated, NoSync, TooLong, NoMemory, Unbuilt}
 
 -- the line before the bytes of a recording
 abbrev pub header : List ℕ
@@ -39,6 +39,8 @@ IsRecorded text old new items (Unbuilt place) = IsFirstOutside text place × (le
 IsRecorded text old new items NoMemory = Appends old new [] × (items ≡ [])
 IsRecorded text old new items ReadFault = Appends old new [] × (items ≡ [])
 IsRecorded text old new items (TooLong limit) = (limit ≡ 2 ^ 26) × (2 ^ 26 < length text) × Appends old new [] × (items ≡ [])
+IsRecorded text old new items (Damaged place reason) = ⊥
+IsRecorded text old new items (Truncated held) = ⊥
 IsRecorded text old new items Usage = ⊥
 
 -- the same once the workload is read: its journal and what is written, or no memory for it
@@ -50,6 +52,8 @@ IsPlayed load old new items NoMemory = Appends old new [] × (items ≡ [])
 IsPlayed load old new items (Unbuilt place) = ⊥
 IsPlayed load old new items ReadFault = ⊥
 IsPlayed load old new items (TooLong limit) = ⊥
+IsPlayed load old new items (Damaged place reason) = ⊥
+IsPlayed load old new items (Truncated held) = ⊥
 IsPlayed load old new items Usage = ⊥
 
 -- how a workload that was read may end
@@ -61,4 +65,6 @@ IsRunEnd NoMemory = Unit {0}
 IsRunEnd (Unbuilt place) = Unit {0}
 IsRunEnd ReadFault = ⊥
 IsRunEnd (TooLong limit) = ⊥
+IsRunEnd (Damaged place reason) = ⊥
+IsRunEnd (Truncated held) = ⊥
 IsRunEnd Usage = ⊥

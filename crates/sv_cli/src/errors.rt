@@ -30,15 +30,29 @@ fn numbered(text: &str, number: u64) -> Line
     line
 }
 
+fn damaged(place: u64, reason: u8) -> Line
+    ensures { result.bytes ≡ codes "damaged at "
+        ++ (decimal place ++ (codes " reason " ++ (decimal reason ++ codes "\n"))) }
+{
+    let mut line = words("damaged at ");
+    line.push_str(Buffer::new().format(place));
+    line.push_str(" reason ");
+    line.push_str(Buffer::new().format(reason));
+    line.push_str("\n");
+    line
+}
+
 /// The line of a status; none for Done.
 fn line_of(status: &Status) -> Line
     ensures { result.bytes ≡ error_line status.now }
 {
     match status {
         Status::Done => words(""),
-        Status::Usage => words("usage: sysview events F | record W\n"),
+        Status::Usage => words("usage: sysview events F | check F | record W\n"),
         Status::ReadFault => words("read fault\n"),
         Status::WriteFault => words("write fault\n"),
+        Status::Damaged { place, reason } => damaged(*place, *reason),
+        Status::Truncated { held } => numbered("truncated, held ", *held),
         Status::NoSync => words("no sync\n"),
         Status::TooLong { limit } => numbered("longer than ", *limit),
         Status::NoMemory => words("no memory\n"),

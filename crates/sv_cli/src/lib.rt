@@ -7,20 +7,18 @@
 #![tactic(auto)]
 
 mod commands;
-mod end;
+mod draining;
 mod errors;
-mod events;
 mod fault;
-mod laws;
-mod lines;
+mod feeding;
 mod reading;
 mod recording;
+mod showing;
 mod status;
+mod telling;
 
 pub use commands::offline;
-pub use end::End;
 pub use errors::tell;
-pub use laws::outcome_once;
 pub use status::Status;
 
 #[cfg(test)]

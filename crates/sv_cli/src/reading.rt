@@ -1,7 +1,7 @@
 //! A file that is read whole.
 ghost use Rattle.std.specs.Prelude.{◌≡◌, ◌≢◌, ◌≤◌, Err, vec_len, IfSome, IfOk, IfErr};
 ghost use Rattle.sv_base.specs.Causes.{Rose, one_more};
-ghost use Rattle.sv_cli.specs.Outcome.{IsUnread, IsReadEnd};
+ghost use Rattle.sv_cli.specs.Reading.{IsUnread, IsReadEnd};
 
 use crate::status::Status;
 use std::alloc::Global;

@@ -9,7 +9,13 @@ pub enum Status {
     ReadFault,
     /// The output took less than the text.
     WriteFault,
-    /// The recording is written, but holds no start, so that nothing in it can be read.
+    /// The recording is damaged: with the byte at `place`, an offset in bytes, no packet goes on.
+    /// `reason` is the number of the reason, from 1 to 4.
+    Damaged { place: u64, reason: u8 },
+    /// The recording ends inside a packet, of which `held` bytes stand.
+    Truncated { held: u64 },
+    /// No ten zero bytes in a row stand in the recording, so that nothing in it can be read. Of a
+    /// workload: it never starts the recorder.
     NoSync,
     /// The file has more bytes than the limit.
     TooLong { limit: u64 },
@@ -32,6 +38,8 @@ impl Status {
             Status::Usage => 2,
             Status::ReadFault => 3,
             Status::WriteFault => 4,
+            Status::Damaged { .. } => 5,
+            Status::Truncated { .. } => 6,
             Status::NoSync => 7,
             Status::TooLong { .. } => 9,
             Status::NoMemory => 10,

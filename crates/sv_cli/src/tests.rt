@@ -50,86 +50,142 @@ fn synced(alloc: Global, bytes: &[u8]) -> Result<Vec<u8>, Fail> {
     Ok(file)
 }
 
+/// Nothing but ten zeros, and what stands before and behind them.
 #[test]
-fn files_and_their_lines(rt: HostRuntime) -> Result<(), Fail> {
+fn recordings_and_their_texts(rt: HostRuntime) -> Result<(), Fail> {
     let alloc = rt.alloc();
-    for (bytes, text) in [
-        ([0x0a, 0x00].as_slice(), "0 TRACE_START\nend clean\n"),
-        ([].as_slice(), "end clean\n"),
+    for (before, bytes, events, check, status, line) in [
         (
-            [0x0f, 0x05, 0x00, 0x04, 0x81, 0x02, 0x20].as_slice(),
-            "0 MARK_START 5\n32 TASK_START_EXEC 257\nend clean\n",
+            "",
+            [0x0a, 0x00].as_slice(),
+            "0 TRACE_START\n",
+            "packets 1\nticks 0\n",
+            Status::Done,
+            "end clean\n",
+        ),
+        (
+            "",
+            [].as_slice(),
+            "",
+            "packets 0\nticks 0\n",
+            Status::Done,
+            "end clean\n",
+        ),
+        (
+            "; Version 1\n",
+            [0x00, 0x0f, 0x05, 0x00, 0x04, 0x81, 0x02, 0x20].as_slice(),
+            "0 MARK_START 5\n32 TASK_START_EXEC 257\n",
+            "packets 2\nticks 32\n",
+            Status::Done,
+            "end clean\n",
+        ),
+        (
+            "\x01",
+            [
+                0x09, 0x01, 0x05, 0x04, 0x4d, 0x22, 0x5c, 0x0a, 0x00, 0x1a, 0x06, 0x02, 0x68, 0x69,
+                0x00, 0x01, 0x07, 0x03, 0x80, 0x04, 0x02, 0x01, 0xff, 0x02,
+            ]
+            .as_slice(),
+            "0 TASK_INFO 1 5 \"M\\\"\\\\\\x0A\"\n3 PRINT_FORMATTED \"hi\" 0 1 7\n5 OPAQUE 512 01FF\n",
+            "packets 3\nticks 5\n",
+            Status::Done,
+            "end clean\n",
+        ),
+        (
+            "",
+            [0x0a, 0x00, 0x17, 0x00].as_slice(),
+            "0 TRACE_START\n",
+            "packets 1\nticks 0\n",
+            Status::Damaged {
+                place: 12,
+                reason: 2,
+            },
+            "end damaged 12 2\n",
+        ),
+        (
+            "",
+            [0x0a, 0x00, 0x02, 0x05].as_slice(),
+            "0 TRACE_START\n",
+            "packets 1\nticks 0\n",
+            Status::Truncated { held: 2 },
+            "end truncated 2\n",
         ),
     ] {
-        let run = run(alloc, &["events", "f"], &synced(alloc, bytes)?, &[], &[])?;
-        assert_eq!(rt; run.status, Status::Done);
-        assert_eq!(rt; run.out.bytes(), text.as_bytes());
-        assert_eq!(rt; run.err.bytes(), [].as_slice());
+        let mut file = before.as_bytes().to_vec(alloc)?;
+        file.extend_from_slice(&synced(alloc, bytes)?)?;
+        let shown = run(alloc, &["events", "f"], &file, &[], &[])?;
+        assert_eq!(rt; shown.status, status, "events of {bytes:?}");
+        assert!(rt; is_text(&shown, events, line), "the lines of {bytes:?}");
+        let checked = run(alloc, &["check", "f"], &file, &[], &[])?;
+        assert_eq!(rt; checked.status, status, "check of {bytes:?}");
+        assert!(rt; is_text(&checked, check, line), "the counts of {bytes:?}");
+    }
+    for file in [[].as_slice(), [0u8; 9].as_slice()] {
+        let shown = run(alloc, &["events", "f"], file, &[], &[])?;
+        assert_eq!(rt; shown.status, Status::NoSync);
+        assert!(rt; is_text(&shown, "", "end no-sync\n"));
     }
     Ok(())
 }
 
-#[test]
-fn files_that_are_not_built(rt: HostRuntime) -> Result<(), Fail> {
-    let alloc = rt.alloc();
-    let start = "0 TRACE_START\n";
-    for (file, place, text, line) in [
-        (Vec::new(alloc), 0, "", "not built at 0\n"),
-        ([0u8; 9].to_vec(alloc)?, 0, "", "not built at 0\n"),
-        (
-            synced(alloc, &[0x00, 0x0a, 0x05])?,
-            10,
-            "",
-            "not built at 10\n",
-        ),
-        (
-            synced(alloc, &[0x0a, 0x00, 0x18])?,
-            12,
-            start,
-            "not built at 12\n",
-        ),
-        (
-            synced(alloc, &[0x0a, 0x00, 0x02, 0x05])?,
-            12,
-            start,
-            "not built at 12\n",
-        ),
-    ] {
-        let run = run(alloc, &["events", "f"], &file, &[], &[])?;
-        assert_eq!(rt; run.status, Status::Unbuilt { place });
-        assert_eq!(rt; run.out.bytes(), text.as_bytes());
-        assert_eq!(rt; run.err.bytes(), line.as_bytes());
+/// Whether this was written, and then the end line.
+fn is_text(run: &Answered, lines: &str, line: &str) -> bool {
+    let out = run.out.bytes();
+    out.len() == lines.len() + line.len()
+        && out.starts_with(lines.as_bytes())
+        && out.ends_with(line.as_bytes())
+}
+
+/// Three descriptions of 4100 bytes, so that a packet stands across each end of 4096 bytes.
+fn long_file(alloc: Global) -> Result<(Vec<u8>, Vec<u8>), Fail> {
+    let mut file = synced(alloc, &[])?;
+    let mut text = Vec::new(alloc);
+    for _ in 0..3 {
+        file.extend_from_slice(&[0x0e, 0xff, 0x04, 0x10])?;
+        text.extend_from_slice(b"0 SYSDESC \"")?;
+        for _ in 0..4100 {
+            file.push(b'a')?;
+            text.push(b'a')?;
+        }
+        file.push(0x00)?;
+        text.extend_from_slice(b"\"\n")?;
     }
-    Ok(())
+    text.extend_from_slice(b"end clean\n")?;
+    Ok((file, text))
 }
 
 #[test]
 fn devices_that_fail(rt: HostRuntime) -> Result<(), Fail> {
     let alloc = rt.alloc();
     let words = ["events", "f"];
-    let start = synced(alloc, &[0x0a, 0x00])?;
-    // Call 1 is that of begin, call 2 the first read, call 3 the read that finds the end.
-    for call in [1u64, 2, 3] {
-        let run = run(alloc, &words, &start, &[call], &[])?;
+    let (file, text) = long_file(alloc)?;
+    let whole = run(alloc, &words, &file, &[], &[])?;
+    assert_eq!(rt; whole.status, Status::Done);
+    assert_eq!(rt; whole.out.bytes(), text.as_slice());
+    // Call 1 is that of begin, then each fill is one read, but for the last one, which finds the end.
+    for (call, lines) in [(1u64, 0), (2, 0), (3, 0), (4, 1), (5, 2), (6, 2)] {
+        let run = run(alloc, &words, &file, &[call], &[])?;
         assert_eq!(rt; run.status, Status::ReadFault, "at call {call}");
-        assert_eq!(rt; run.out.bytes(), [].as_slice());
+        assert!(rt; text.starts_with(run.out.bytes()), "at call {call}");
+        assert_eq!(rt; run.out.bytes().len(), 4113 * lines, "at call {call}");
         assert_eq!(rt; run.err.bytes(), "read fault\n".as_bytes());
     }
-    let written = run(alloc, &words, &start, &[], &[1])?;
-    assert_eq!(rt; written.status, Status::WriteFault);
-    assert_eq!(rt; written.out.bytes(), [].as_slice());
-    assert_eq!(rt; written.err.bytes(), "write fault\n".as_bytes());
-    // Few lines are one write, so a second one that would fail is never tried.
-    assert_eq!(rt; run(alloc, &words, &start, &[], &[2])?.status, Status::Done);
-    // A thousand lines of 11 bytes and more are two writes: the first has 10240 bytes or a line more.
-    let mut long = synced(alloc, &[])?;
-    for _ in 0..1000 {
-        long.extend_from_slice(&[0x03, 0x01])?;
+    assert_eq!(rt; run(alloc, &words, &file, &[7], &[])?.status, Status::Done);
+    // Each fill's lines are one write: those of the first fill are none.
+    for (call, lines) in [(1u64, 0), (2, 1), (3, 2), (4, 3)] {
+        let run = run(alloc, &words, &file, &[], &[call])?;
+        assert_eq!(rt; run.status, Status::WriteFault, "at call {call}");
+        assert!(rt; text.starts_with(run.out.bytes()), "at call {call}");
+        assert_eq!(rt; run.out.bytes().len(), 4113 * lines, "at call {call}");
+        assert_eq!(rt; run.err.bytes(), "write fault\n".as_bytes());
     }
-    let broken = run(alloc, &words, &long, &[], &[2])?;
-    assert_eq!(rt; broken.status, Status::WriteFault);
-    assert!(rt; broken.out.bytes().starts_with(b"1 ISR_EXIT\n2 ISR_EXIT\n"));
-    assert!(rt; broken.out.bytes().len() >= 10240 && broken.out.bytes().len() < 10260);
+    // A check writes once, at the end.
+    let checked = run(alloc, &["check", "f"], &file, &[], &[1])?;
+    assert_eq!(rt; checked.status, Status::WriteFault);
+    assert_eq!(rt; checked.out.bytes(), [].as_slice());
+    let unread = run(alloc, &["check", "f"], &file, &[5], &[])?;
+    assert_eq!(rt; unread.status, Status::ReadFault);
+    assert_eq!(rt; unread.out.bytes(), [].as_slice());
     Ok(())
 }
 
@@ -138,7 +194,7 @@ fn is_usage(alloc: Global, words: &[&str]) -> Result<bool, Fail> {
     let run = run(alloc, words, &[], &[], &[])?;
     Ok(
         run.status == Status::Usage
-            && run.err.bytes() == b"usage: sysview events F | record W\n".as_slice(),
+            && run.err.bytes() == b"usage: sysview events F | check F | record W\n".as_slice(),
     )
 }
 
@@ -149,6 +205,7 @@ fn words_and_codes(rt: HostRuntime) -> Result<(), Fail> {
     assert!(rt; is_usage(alloc, &["report"])?);
     assert!(rt; is_usage(alloc, &["events"])?);
     assert!(rt; is_usage(alloc, &["events", "f", "f"])?);
+    assert!(rt; is_usage(alloc, &["check"])?);
     assert!(rt; is_usage(alloc, &["record"])?);
     assert!(rt; is_usage(alloc, &["record", "f", "f"])?);
     assert!(rt; is_usage(alloc, &["--help"])?);
@@ -159,6 +216,15 @@ fn words_and_codes(rt: HostRuntime) -> Result<(), Fail> {
             9,
             "longer than 8589934592\n",
         ),
+        (
+            Status::Damaged {
+                place: 12,
+                reason: 2,
+            },
+            5,
+            "damaged at 12 reason 2\n",
+        ),
+        (Status::Truncated { held: 2 }, 6, "truncated, held 2\n"),
         (Status::NoSync, 7, "no sync\n"),
         (Status::NoMemory, 10, "no memory\n"),
         (Status::Unbuilt { place: 12 }, 11, "not built at 12\n"),

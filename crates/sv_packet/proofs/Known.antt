@@ -1,81 +1,74 @@
--- The packets of the events that the decoder knows are those of any event.
-use Rattle.std.proofs.Common.{◌≡◌, ℕ, ◌<◌, ◌^◌, List, [], ◌∷◌, ◌++◌, length, map, refl, sym, ap, subst, ◌∙◌, arith, inl, inr}
-use Rattle.std.specs.Prelude.{◌↔◌}
+-- What was read of a payload under a length field, and the event that it tells.
+use Rattle.std.proofs.Common.{◌≡◌, ℕ, ◌-◌, Bool, List, [], length, take, drop, Option, Some, None, refl, sym, ap, subst, ◌∙◌, inl, inr}
+use Rattle.std.specs.Prelude.{IsTrue, ◌↔◌, MatchOption}
+use Rattle.std.specs.Option.{is_some}
+use Rattle.std.proofs.lemmas.List.{append-nil}
+use Rattle.sv_prim.specs.Text.{AreBytes, IsText}
+use Rattle.sv_prim.specs.Number.{IsNumber}
 use Rattle.sv_packet.specs.declared.event.Event.{Event}
-use Rattle.sv_packet.specs.declared.event.Event.TheVariants.{Nop}
-use Rattle.sv_packet.specs.declared.event.Packet.{Packet}
-use Rattle.sv_packet.specs.Table.{identifier, numbers}
-use Rattle.sv_packet.specs.Packet.{AreNumbers, IsPacket}
-use Rattle.sv_packet.specs.AnyEvent.{whole}
-use Rattle.sv_packet.specs.Fields.{identifier_of, fields_of, Field, Number}
-use Rattle.sv_packet.specs.Spelled.{SpellsFields, IsHead, IsKeptAsBytes, Spells}
-use Rattle.sv_packet.specs.Spelling.{spelling_of, HasFields, IsValid}
-use Rattle.sv_packet.proofs.Spelled.{has_length-high, all_once, all_spelled}
+use Rattle.sv_packet.specs.declared.event.Event.TheVariants as event
+use Rattle.sv_packet.specs.declared.counted.Form.{Form}
+use Rattle.sv_packet.specs.declared.counted.Form.TheVariants.{Regular, Print, EndCall}
+use Rattle.sv_packet.specs.declared.reader.Reader.{Reader}
+use Rattle.sv_packet.specs.declared.reader.Four.{Four}
+use Rattle.sv_packet.specs.Table.{identifier, fields, Field}
+use Rattle.sv_packet.specs.Packet.{AreFields, IsOpaque, IsForm, IsKeptAsBytes}
+use Rattle.sv_packet.specs.Shape.{number_count, fields_by}
+use Rattle.sv_packet.specs.Parts.{AreNumbers}
+use Rattle.sv_packet.specs.Forms.{IsRegularForm, IsCountedId, IsFormOf}
+use Rattle.sv_packet.specs.Made.{IsMade, IsEventOf}
+use Rattle.sv_packet.specs.Reader.{left, Takes, numbers_in}
+use Rattle.sv_packet.proofs.Counts.{numbers_free}
+use Rattle.sv_packet.proofs.Making.{can_make}
+use Rattle.sv_packet.proofs.Payloads.{made_known, as_regular}
+use Rattle.sv_packet.proofs.Pieces.{slice_from}
 
-known_identifier : (event : Event) → identifier_of (whole event) ≡ identifier event
-known_identifier Nop = refl
-known_identifier other = refl
+pub known_kept : (event : Event) → (IsOpaque event → ⊥) → IsKeptAsBytes event
+known_kept (event.Opaque id payload) known = absurd (known tt)
+known_kept other known = tt
 
-known_fields : (event : Event) → fields_of (whole event) ≡ map Number (numbers event)
-known_fields Nop = refl
-known_fields other = refl
+four_count : (id : ℕ) → IsRegularForm id → (four : Four) → length (numbers_in (number_count id) four) ≡ number_count id
+four_count id (inl is) four = subst (λ (k : ℕ). length (numbers_in (number_count k) four) ≡ number_count k) (sym is) refl
+four_count id (inr (inl is)) four = subst (λ (k : ℕ). length (numbers_in (number_count k) four) ≡ number_count k) (sym is) refl
+four_count id (inr (inr (inl is))) four = subst (λ (k : ℕ). length (numbers_in (number_count k) four) ≡ number_count k) (sym is) refl
+four_count id (inr (inr (inr is))) four = subst (λ (k : ℕ). length (numbers_in (number_count k) four) ≡ number_count k) (sym is) refl
 
-known_low : (event : Event) → identifier event < 24
-known_low Nop = omega arith
-known_low other = omega arith
+end_known : (call : ℕ) (value : Option ℕ) → (IsOpaque (event.EndCall call value) → ⊥) × (identifier (event.EndCall call value) ≡ 28)
+end_known call value = ((λ opaque. opaque), refl)
 
-known_kept : (event : Event) → IsKeptAsBytes (whole event)
-known_kept Nop = tt
-known_kept other = tt
+-- what was read is a form
+pub form_of : (id : ℕ) (payload : List ℕ) (form : Form) → IsFormOf id payload form → IsForm id payload
+form_of id payload (Regular four text) (is, s) =
+    let ns = numbers_in (number_count id) four in
+    let (event, m) = can_make id (as_regular id is) ns text.now (four_count id is four) in
+    (event, made_known id ns text.now event m, m.same, subst (λ (fs : List Field). AreFields fs payload) (sym m.parts) s)
+form_of id payload (Print text options count args) (is, ns, many, s) = (event.Print text.now options ns, (λ opaque. opaque), sym is, s)
+form_of id payload (EndCall call value) (is, s) = let known = end_known call value in (event.EndCall call value, known.0, known.1 ∙ sym is, s)
 
-fields_of_numbers : (ns bytes : List ℕ) → AreNumbers ns bytes → SpellsFields (map Number ns) bytes
-fields_of_numbers [] bytes s = s
-fields_of_numbers (n ∷ ns) bytes (first, rest, one, others, split) = (first, rest, one, fields_of_numbers ns rest others, split)
+pub form_found : (id : ℕ) (payload : List ℕ) (form : Option Form) (found : Bool) → found ≡ is_some form → MatchOption form (IsForm id payload → ⊥) (IsFormOf id payload) → IsTrue found ↔ IsForm id payload
+form_found id payload None found e none = (λ is. absurd cc, λ form. absurd (none form))
+form_found id payload (Some form) found e s = (λ is. form_of id payload form s, λ is. cc)
 
-numbers_of_fields : (ns bytes : List ℕ) → SpellsFields (map Number ns) bytes → AreNumbers ns bytes
-numbers_of_fields [] bytes s = s
-numbers_of_fields (n ∷ ns) bytes (first, rest, one, others, split) = (first, rest, one, numbers_of_fields ns rest others, split)
+-- ---- events
 
-bare : (id size : ℕ) (bytes : List ℕ) → id < 24 → IsHead id size bytes → bytes ≡ id ∷ []
-bare id size bytes low (inl head) = head.1
-bare id size bytes low (inr head) = absurd (omega (arith, head.0))
+pub opaque_event : (id : ℕ) (payload : List ℕ) → IsCountedId id → AreBytes payload → (IsForm id payload → ⊥) → IsEventOf id payload (event.Opaque id payload)
+opaque_event id payload counted are none = record { same = refl; kept = (counted.0, counted.1, none); spelled = (payload, [], (are, refl), refl, sym (append-nil payload)) }
 
-pub packet_spells : (packet : Packet) (bytes : List ℕ) → IsPacket packet bytes → Spells (whole packet.event) packet.delta bytes
-packet_spells packet bytes s =
-    let event = packet.event in
-    record {
-      head = identifier event ∷ [];
-      payload = s.payload;
-      last = s.last;
-      kept = known_kept event;
-      before = subst (λ (id : ℕ). IsHead id (length s.payload) (identifier event ∷ [])) (sym (known_identifier event)) (inl (known_low event, refl));
-      fields = subst (λ (fields : List Field). SpellsFields fields s.payload) (sym (known_fields event)) (fields_of_numbers (numbers event) s.payload s.fields);
-      ticks = s.delta;
-      whole = s.whole;
-    }
+pub regular_made : (id : ℕ) (payload : List ℕ) (four : Four) (text : List ℕ) (event : Event) → AreFields (fields_by id (numbers_in (number_count id) four) text) payload → IsMade id (numbers_in (number_count id) four) text event → IsEventOf id payload event
+regular_made id payload four text event s m = record {
+  same = m.same;
+  kept = known_kept event (made_known id (numbers_in (number_count id) four) text event m);
+  spelled = subst (λ (fs : List Field). AreFields fs payload) (sym m.parts) s;
+}
 
-pub spells_packet : (packet : Packet) (bytes : List ℕ) → Spells (whole packet.event) packet.delta bytes → IsPacket packet bytes
-spells_packet packet bytes s =
-    let event = packet.event in
-    let before = subst (λ (id : ℕ). IsHead id (length s.payload) s.head) (known_identifier event) s.before in
-    let head = bare (identifier event) (length s.payload) s.head (known_low event) before in
-    record {
-      payload = s.payload;
-      last = s.last;
-      fields = numbers_of_fields (numbers event) s.payload (subst (λ (fields : List Field). SpellsFields fields s.payload) (known_fields event) s.fields);
-      delta = s.ticks;
-      whole = s.whole ∙ ap (λ (k : List ℕ). k ++ (s.payload ++ s.last)) head;
-    }
+pub print_event : (id : ℕ) (payload : List ℕ) (text args : List ℕ) (options count : ℕ) (numbers : List ℕ) → id ≡ 26 → ((ns : List ℕ) × AreNumbers count ns args × AreFields (fields (event.Print text options ns)) payload) → AreNumbers count numbers args → IsEventOf id payload (event.Print text options numbers)
+print_event id payload text args options count numbers is (ns, many, s) taken =
+    let same = (numbers_free count ns numbers args args [] [] many taken refl).1 in
+    record { same = sym is; kept = tt; spelled = subst (λ (k : List ℕ). AreFields (fields (event.Print text options k)) payload) same s }
 
-pub packet_law : (packet : Packet) (bytes : List ℕ) → IsPacket packet bytes ↔ Spells (whole packet.event) packet.delta bytes
-packet_law packet bytes = (packet_spells packet bytes, spells_packet packet bytes)
+-- ---- what stands behind a text and two numbers
 
-pub packet_once : (packet : Packet) (bytes : List ℕ) → IsPacket packet bytes → bytes ≡ spelling_of (whole packet.event) packet.delta
-packet_once packet bytes s = (all_once (whole packet.event) packet.delta bytes (packet_spells packet bytes s)).2
-
-known_valid : (event : Event) → HasFields 65535 (whole event) → IsValid (whole event)
-known_valid event in_range = record { in_range = in_range; payload = λ has. let high = has_length-high (whole event) has in absurd (omega (arith, known_identifier event, known_low event, high)); as_bytes = known_kept event }
-
-pub packet_spelled : (packet : Packet) → HasFields 65535 (whole packet.event) → packet.delta < 2 ^ 32 → IsPacket packet (spelling_of (whole packet.event) packet.delta)
-packet_spelled packet in_range fits =
-    spells_packet packet (spelling_of (whole packet.event) packet.delta) (all_spelled (whole packet.event) packet.delta (known_valid packet.event in_range) fits)
+pub behind_three : (old m1 m2 m3 : Reader) (text : List ℕ) (options count : ℕ) → Takes IsText old m1 text → Takes IsNumber m1 m2 options → Takes IsNumber m2 m3 count → take (length old.bytes.now - m3.at) (drop m3.at old.bytes.now) ≡ left m3
+behind_three old m1 m2 m3 text options count t u w =
+    let same : m3.bytes.now ≡ old.bytes.now = w.same ∙ u.same ∙ t.same in
+    ap (λ (b : List ℕ). take (length b - m3.at) (drop m3.at b)) (sym same) ∙ slice_from m3.bytes.now m3.at m3.within

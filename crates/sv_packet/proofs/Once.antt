@@ -1,5 +1,5 @@
 -- Bytes are packets and a rest in one way.
-use Rattle.std.proofs.Common.{◌≡◌, ℕ, ◌<◌, ◌≤◌, List, [], ◌∷◌, ◌++◌, length, take, refl, sym, ap, subst, ◌∙◌, append_assoc, arith}
+use Rattle.std.proofs.Common.{◌≡◌, ℕ, ◌<◌, ◌≤◌, List, [], ◌∷◌, ◌++◌, length, take, refl, sym, ap, subst, ◌∙◌, append_assoc, arith, inl, inr}
 use Rattle.std.proofs.lemmas.List.{length-append, length-take, append-nil, append_cancel_left}
 use Rattle.std.proofs.Math.Seq.{take-append_seam}
 use Rattle.sv_prim.specs.Code.{Begins}
@@ -7,17 +7,29 @@ use Rattle.sv_prim.specs.Number.{IsGroups}
 use Rattle.sv_packet.specs.declared.event.Packet.{Packet}
 use Rattle.sv_packet.specs.Packet.{IsPacket}
 use Rattle.sv_packet.specs.Packets.{ArePackets, BeginsWithNone}
-use Rattle.sv_packet.proofs.Packets.{packet_free}
+use Rattle.sv_packet.specs.Packet.{IsHead, IsShortNumber}
+use Rattle.sv_packet.proofs.Free.{packet_free}
 
 groups_some : (bytes : List ℕ) → IsGroups bytes → 0 < length bytes
 groups_some [] g = absurd g
 groups_some (b ∷ bs) g = omega arith
 
+short_some : (n : ℕ) (bytes : List ℕ) → IsShortNumber n bytes → 0 < length bytes
+short_some n bytes (inl one) = omega (arith, ap length one.1)
+short_some n bytes (inr two) = omega (arith, ap length two.whole)
+
+head_some : (id size : ℕ) (bytes : List ℕ) → IsHead id size bytes → 0 < length bytes
+head_some id size bytes (inl bare) = omega (arith, ap length bare.1)
+head_some id size bytes (inr counted) =
+    let some = short_some id counted.1.first counted.1.id_spelled in
+    omega (arith, ap length counted.1.whole, length-append counted.1.first counted.1.second)
+
 -- a packet has an identifier and a delta
 pub packet_size : (p : Packet) (bytes : List ℕ) → IsPacket p bytes → 2 ≤ length bytes
 packet_size p bytes s =
     let some = groups_some s.last s.delta.groups in
-    omega (arith, ap length s.whole, length-append s.payload s.last)
+    let front = head_some _ _ s.head s.before in
+    omega (arith, ap length s.whole, length-append s.payload s.last, length-append s.head (s.payload ++ s.last))
 
 pub no_packet : BeginsWithNone []
 no_packet p used b = let size = packet_size p (take used []) b.spelled in omega (arith, length-take {A = ℕ} used [])

@@ -1,110 +1,157 @@
--- Payloads: how many numbers stand behind an identifier, and what a stop among them says.
-use Rattle.std.proofs.Common.{◌≡◌, ℕ, ◌+◌, List, [], ◌∷◌, ◌++◌, length, get_or, take, refl, sym, ap, subst, ◌∙◌, append_assoc, arith}
-use Rattle.std.specs.Prelude.{◌==◌, if◌then◌else◌}
-use Rattle.std.specs.List.{list_any}
-use Rattle.std.proofs.lemmas.List.{append-nil, append_cancel_left}
-use Rattle.sv_prim.specs.Code.{GoesOn, IsCutShort, BreaksAt, IsPrefixFree}
-use Rattle.sv_prim.specs.Number.{IsNumber, number_reason}
-use Rattle.sv_prim.proofs.Groups.{number_free}
+-- Payloads under a length field: the forms of each identifier, as what is read one after another.
+use Rattle.std.proofs.Common.{◌≡◌, ◌≢◌, ℕ, Bool, true, false, List, [], ◌∷◌, ◌++◌, map, length, Option, Some, None, refl, sym, ap, subst, ◌∙◌, arith, inr}
+use Rattle.std.specs.Prelude.{if◌then◌else◌}
+use Rattle.std.proofs.lemmas.List.{append-nil}
+use Rattle.sv_prim.specs.Code.{IsPair}
+use Rattle.sv_prim.specs.Number.{IsNumber}
+use Rattle.sv_prim.specs.Text.{IsText}
 use Rattle.sv_packet.specs.declared.event.Event.{Event}
-use Rattle.sv_packet.specs.declared.event.Event.TheVariants.{Nop, Overflow, IsrEnter, IsrExit, TaskStart, TaskStop, TaskReady, TaskCreate, TraceStart, TraceStop, SystimeCycles, MarkStart, MarkStop, Idle, ToScheduler, TimerEnter, TimerExit}
-use Rattle.sv_packet.specs.declared.reader.Reader.{Reader}
-use Rattle.sv_packet.specs.declared.reader.Stop.{Stop}
-use Rattle.sv_packet.specs.declared.reader.Stop.TheVariants.{Short, Bad}
-use Rattle.sv_packet.specs.Table.{identifier, numbers}
-use Rattle.sv_packet.specs.Packet.{AreNumbers}
-use Rattle.sv_packet.specs.Reader.{left, Stops, IsPayloadOf}
+use Rattle.sv_packet.specs.declared.event.Event.TheVariants as event
+use Rattle.sv_packet.specs.Table.{identifier, fields, Field, Number, Text, Raw}
+use Rattle.sv_packet.specs.Packet.{AreFields, IsOpaque, IsForm}
+use Rattle.sv_packet.specs.Shape.{number_count, ends_in_text, fields_by, IsRegularId}
+use Rattle.sv_packet.specs.Parts.{AreNumbers, IsTextIf}
+use Rattle.sv_packet.specs.Made.{IsMade}
+use Rattle.sv_packet.specs.Forms.{IsRegularForm}
+use Rattle.sv_packet.proofs.Forms.{is_print, is_end, other_is_regular}
+use Rattle.sv_packet.proofs.Counts.{fields_both, fields_split}
+use Rattle.sv_packet.proofs.Making.{shaped, can_make}
 
--- how many numbers stand behind an identifier
-abbrev pub count : ℕ → ℕ
-count id = if list_any (λ k. k == id) (1 ∷ 2 ∷ 4 ∷ 6 ∷ 8 ∷ 12 ∷ 15 ∷ 16 ∷ 19 ∷ []) then 1 else 0
+-- ---- numbers and a text or none
 
-pub count_of : (event : Event) → count (identifier event) ≡ length (numbers event)
-count_of Nop = refl
-count_of (Overflow count) = refl
-count_of (IsrEnter isr) = refl
-count_of IsrExit = refl
-count_of (TaskStart task) = refl
-count_of TaskStop = refl
-count_of (TaskReady task) = refl
-count_of (TaskCreate task) = refl
-count_of TraceStart = refl
-count_of TraceStop = refl
-count_of (SystimeCycles value) = refl
-count_of (MarkStart id) = refl
-count_of (MarkStop id) = refl
-count_of Idle = refl
-count_of ToScheduler = refl
-count_of (TimerEnter timer) = refl
-count_of TimerExit = refl
+abbrev pub IsRegularPayload : ℕ → List ℕ × List ℕ → List ℕ → Type 0
+IsRegularPayload id = IsPair (AreNumbers (number_count id)) (λ (numbers : List ℕ). IsTextIf (ends_in_text id))
 
-pub one_number : (n : ℕ) (bytes : List ℕ) → IsNumber n bytes → AreNumbers (n ∷ []) bytes
-one_number n bytes s = (bytes, [], s, refl, sym (append-nil bytes))
+pub text_fields : (there : Bool) (text bytes : List ℕ) → IsTextIf there text bytes → AreFields (if there then Text text ∷ [] else []) bytes
+text_fields true text bytes s = (bytes, [], s, refl, sym (append-nil bytes))
+text_fields false text bytes s = s.1
 
--- a list of one number begins with it
-first_number : (ns : List ℕ) (bytes : List ℕ) → length ns ≡ 1 → AreNumbers ns bytes → (n : ℕ) × IsNumber n bytes
-first_number [] bytes one s = absurd (omega arith)
-first_number (n ∷ []) bytes one (first, rest, s, nothing, whole) = (n, subst (IsNumber n) (sym (whole ∙ ap (λ (r : List ℕ). first ++ r) nothing ∙ append-nil first)) s)
-first_number (n ∷ m ∷ ns) bytes one s = absurd (omega arith)
+fields_text : (there : Bool) (text bytes : List ℕ) → AreFields (if there then Text text ∷ [] else []) bytes → (t : List ℕ) × IsTextIf there t bytes
+fields_text true text bytes (first, rest, s, nothing, whole) = (text, subst (IsText text) (sym (whole ∙ ap (λ (k : List ℕ). first ++ k) nothing ∙ append-nil first)) s)
+fields_text false text bytes p = ([], (refl, p))
 
-module _ (id : ℕ) (make : ℕ → Event) (is : (n : ℕ) → identifier (make n) ≡ id) (has : (n : ℕ) → numbers (make n) ≡ n ∷ []) (one : count id ≡ 1) where
-  pub one_short : (bytes : List ℕ) → IsCutShort IsNumber bytes → IsCutShort (IsPayloadOf id) bytes
-  one_short bytes (n, more, some, s) = (make n, more, some, (is n, subst (λ (ns : List ℕ). AreNumbers ns (bytes ++ more)) (sym (has n)) (one_number n (bytes ++ more) s)))
+pub regular_fields : (id : ℕ) (v : List ℕ × List ℕ) (bytes : List ℕ) → IsRegularPayload id v bytes → AreFields (fields_by id v.0 v.1) bytes
+regular_fields id v bytes p =
+    subst (AreFields (fields_by id v.0 v.1)) (sym p.whole)
+    (fields_both (map Number v.0) (if ends_in_text id then Text v.1 ∷ [] else []) p.first p.second p.first_spelled.1 (text_fields (ends_in_text id) v.1 p.second p.second_spelled))
 
-  one_goes : (bytes : List ℕ) → GoesOn (IsPayloadOf id) bytes → GoesOn IsNumber bytes
-  one_goes bytes (event, more, (same, s)) =
-      let n = first_number (numbers event) (bytes ++ more) (sym (count_of event) ∙ ap count same ∙ one) s in
-      (n.0, more, n.1)
+pub fields_regular : (id : ℕ) (numbers text bytes : List ℕ) → length numbers ≡ number_count id → AreFields (fields_by id numbers text) bytes → (v : List ℕ × List ℕ) × IsRegularPayload id v bytes
+fields_regular id numbers text bytes count s =
+    let (a, b, p, q, whole) = fields_split (map Number numbers) (if ends_in_text id then Text text ∷ [] else []) bytes s in
+    let (t, q2) = fields_text (ends_in_text id) text b q in
+    ((numbers, t), record { first = a; second = b; first_spelled = (count, p); second_spelled = q2; whole = whole })
 
-  pub one_breaks : (bytes : List ℕ) (place : ℕ) → BreaksAt IsNumber bytes place → BreaksAt (IsPayloadOf id) bytes place
-  one_breaks bytes place p = record { within = p.within; before = one_short (take place bytes) p.before; here = λ goes. p.here (one_goes (take (place + 1) bytes) goes) }
+-- ---- events of numbers and a text
 
-  pub one_stops : (old : Reader) (stop : Stop) → Stops IsNumber number_reason old stop → Stops (IsPayloadOf id) number_reason old stop
-  one_stops old Short p = one_short (left old) p
-  one_stops old (Bad place reason) (ahead, is_place, p, why) = (ahead, is_place, one_breaks (left old) ahead p, why)
+no_raw : (there : Bool) (text raw : List ℕ) → Raw raw ∷ [] ≡ (if there then Text text ∷ [] else []) → ⊥
+no_raw true text raw e = absurd cc
+no_raw false text raw e = absurd cc
 
-pub numbers_free : (ns ms : List ℕ) (a b x y : List ℕ) → length ns ≡ length ms → AreNumbers ns a → AreNumbers ms b → a ++ x ≡ b ++ y → (a ≡ b) × (ns ≡ ms)
-numbers_free [] [] a b x y len p q e = (p ∙ sym q, refl)
-numbers_free [] (m ∷ ms) a b x y len p q e = absurd (omega arith)
-numbers_free (n ∷ ns) [] a b x y len p q e = absurd (omega arith)
-numbers_free (n ∷ ns) (m ∷ ms) a b x y len (c, d, s, p, whole) (f, g, t, q, whole2) e =
-    let regrouped : c ++ (d ++ x) ≡ f ++ (g ++ y) = sym (append_assoc c d x) ∙ ap (λ (k : List ℕ). k ++ x) (sym whole) ∙ e ∙ ap (λ (k : List ℕ). k ++ y) whole2 ∙ append_assoc f g y in
-    let one = number_free n m c f (d ++ x) (g ++ y) s t regrouped in
-    let tails : d ++ x ≡ g ++ y = append_cancel_left f (d ++ x) (g ++ y) (ap (λ (k : List ℕ). k ++ (d ++ x)) (sym one.0) ∙ regrouped) in
-    let others = numbers_free ns ms d g x y (omega arith) p q tails in
-    let first : n ≡ m = one.1 in
-    let rest : ns ≡ ms = others.1 in
-    (whole ∙ ap (λ (k : List ℕ). k ++ d) one.0 ∙ ap (λ (k : List ℕ). f ++ k) others.0 ∙ sym whole2, cc)
+not_raw : (id : ℕ) (numbers text raw : List ℕ) → Raw raw ∷ [] ≡ fields_by id numbers text → ⊥
+not_raw id [] text raw e = no_raw (ends_in_text id) text raw e
+not_raw id (n ∷ numbers) text raw e = absurd cc
 
--- the event with an identifier and these numbers
-abbrev pub build : ℕ → List ℕ → Event
-build id ns = let n = get_or ns 0 0 in
-    if id == 0 then Nop else if id == 1 then Overflow n else if id == 2 then IsrEnter n else if id == 3 then IsrExit else if id == 4 then TaskStart n else if id == 5 then TaskStop
-    else if id == 6 then TaskReady n else if id == 8 then TaskCreate n else if id == 10 then TraceStart else if id == 11 then TraceStop else if id == 12 then SystimeCycles n
-    else if id == 15 then MarkStart n else if id == 16 then MarkStop n else if id == 17 then Idle else if id == 18 then ToScheduler else if id == 19 then TimerEnter n else TimerExit
+-- such an event is not opaque
+pub made_known : (id : ℕ) (numbers text : List ℕ) (event : Event) → IsMade id numbers text event → IsOpaque event → ⊥
+made_known id numbers text (event.Opaque other raw) m opaque = not_raw id numbers text raw m.parts
+made_known id numbers text other m opaque = opaque
 
-built : (event : Event) → build (identifier event) (numbers event) ≡ event
-built Nop = refl
-built (Overflow count) = refl
-built (IsrEnter isr) = refl
-built IsrExit = refl
-built (TaskStart task) = refl
-built TaskStop = refl
-built (TaskReady task) = refl
-built (TaskCreate task) = refl
-built TraceStart = refl
-built TraceStop = refl
-built (SystimeCycles value) = refl
-built (MarkStart id) = refl
-built (MarkStop id) = refl
-built Idle = refl
-built ToScheduler = refl
-built (TimerEnter timer) = refl
-built TimerExit = refl
+regular_id : (id : ℕ) → IsRegularForm id → (id ≢ 26) × (id ≢ 28)
+regular_id id form = ((λ e. omega (arith, form, e)), (λ e. omega (arith, form, e)))
 
-pub payload_free : (id : ℕ) → IsPrefixFree (IsPayloadOf id)
-payload_free id u v a b x y p q e =
-    let same : identifier u ≡ identifier v = p.0 ∙ sym q.0 in
-    let len : length (numbers u) ≡ length (numbers v) = sym (count_of u) ∙ ap count same ∙ count_of v in
-    let n = numbers_free (numbers u) (numbers v) a b x y len p.1 q.1 e in
-    (n.0, sym (built u) ∙ ap (λ (k : ℕ). build k (numbers u)) same ∙ ap (build (identifier v)) n.1 ∙ built v)
+pub as_regular : (id : ℕ) → IsRegularForm id → IsRegularId id
+as_regular id form = inr form
+
+pub form_regular : (id : ℕ) (payload : List ℕ) → IsRegularForm id → IsForm id payload → (v : List ℕ × List ℕ) × IsRegularPayload id v payload
+form_regular id payload form (event, known, same, s) =
+    let not = regular_id id form in
+    let shape = shaped event (other_is_regular event known (λ e. not.0 (sym same ∙ e)) (λ e. not.1 (sym same ∙ e))) in
+    fields_regular id shape.numbers shape.text payload (shape.count ∙ ap number_count same) (subst (λ (k : ℕ). AreFields (fields_by k shape.numbers shape.text) payload) same (subst (λ (fs : List Field). AreFields fs payload) shape.parts s))
+
+pub regular_form : (id : ℕ) (payload : List ℕ) → IsRegularForm id → (v : List ℕ × List ℕ) → IsRegularPayload id v payload → IsForm id payload
+regular_form id payload form v p =
+    let (event, m) = can_make id (as_regular id form) v.0 v.1 p.first_spelled.0 in
+    (event, made_known id v.0 v.1 event m, m.same, subst (λ (fs : List Field). AreFields fs payload) (sym m.parts) (regular_fields id v payload p))
+
+-- ---- prints
+
+abbrev pub IsArguments : ℕ → ℕ × List ℕ → List ℕ → Type 0
+IsArguments options = IsPair IsNumber AreNumbers
+
+abbrev pub IsOptions : List ℕ → ℕ × (ℕ × List ℕ) → List ℕ → Type 0
+IsOptions text = IsPair IsNumber IsArguments
+
+-- a text, its options, a number, and so many numbers
+abbrev pub IsPrintPayload : List ℕ × (ℕ × (ℕ × List ℕ)) → List ℕ → Type 0
+IsPrintPayload = IsPair IsText IsOptions
+
+print_fields : (text : List ℕ) (options : ℕ) (args bytes : List ℕ) → AreFields (fields (event.Print text options args)) bytes → IsPrintPayload (text, (options, (length args, args))) bytes
+print_fields text options args bytes (a, b, s, (c, d, t, (e, f, u, rest, whole3), whole2), whole) = record {
+  first = a;
+  second = b;
+  first_spelled = s;
+  second_spelled = record {
+    first = c;
+    second = d;
+    first_spelled = t;
+    second_spelled = record { first = e; second = f; first_spelled = u; second_spelled = (refl, rest); whole = whole3 };
+    whole = whole2;
+  };
+  whole = whole;
+}
+
+pub form_print : (payload : List ℕ) → IsForm 26 payload → (v : List ℕ × (ℕ × (ℕ × List ℕ))) × IsPrintPayload v payload
+form_print payload (event, known, same, s) =
+    let (text, options, args, is) = is_print event known same in
+    ((text, (options, (length args, args))), print_fields text options args payload (subst (λ (k : Event). AreFields (fields k) payload) is s))
+
+pub fields_print : (text : List ℕ) (options count : ℕ) (args bytes : List ℕ) → IsPrintPayload (text, (options, (count, args))) bytes → AreFields (fields (event.Print text options args)) bytes
+fields_print text options count args bytes p =
+    let o = p.second_spelled in
+    let n = o.second_spelled in
+    let many = n.second_spelled in (
+      p.first,
+      p.second,
+      p.first_spelled,
+      (o.first, o.second, o.first_spelled, (n.first, n.second, subst (λ (k : ℕ). IsNumber k n.first) (sym many.0) n.first_spelled, many.1, n.whole), o.whole),
+      p.whole,
+    )
+
+pub print_form : (payload : List ℕ) (v : List ℕ × (ℕ × (ℕ × List ℕ))) → IsPrintPayload v payload → IsForm 26 payload
+print_form payload (text, (options, (count, args))) p = (event.Print text options args, (λ opaque. opaque), refl, fields_print text options count args payload p)
+
+-- ---- ends of calls
+
+-- a number, or nothing
+abbrev pub IsNumberOrNone : Option ℕ → List ℕ → Type 0
+IsNumberOrNone None bytes = bytes ≡ []
+IsNumberOrNone (Some n) bytes = IsNumber n bytes
+
+abbrev pub IsEndPayload : ℕ × Option ℕ → List ℕ → Type 0
+IsEndPayload = IsPair IsNumber (λ (call : ℕ). IsNumberOrNone)
+
+end_fields : (call : ℕ) (value : Option ℕ) (bytes : List ℕ) → AreFields (fields (event.EndCall call value)) bytes → IsEndPayload (call, value) bytes
+end_fields call None bytes (first, rest, s, nothing, whole) = record { first = first; second = rest; first_spelled = s; second_spelled = nothing; whole = whole }
+end_fields call (Some value) bytes (first, rest, s, one, whole) =
+    record { first = first; second = rest; first_spelled = s; second_spelled = only_number value rest one; whole = whole }
+  where
+    only_number : (n : ℕ) (bytes : List ℕ) → AreFields (Number n ∷ []) bytes → IsNumber n bytes
+    only_number n bytes (first, rest, s, nothing, whole) = subst (IsNumber n) (sym (whole ∙ ap (λ (k : List ℕ). first ++ k) nothing ∙ append-nil first)) s
+
+pub form_end : (payload : List ℕ) → IsForm 28 payload → (v : ℕ × Option ℕ) × IsEndPayload v payload
+form_end payload (event, known, same, s) =
+    let (call, value, is) = is_end event known same in
+    ((call, value), end_fields call value payload (subst (λ (k : Event). AreFields (fields k) payload) is s))
+
+pub fields_end : (call : ℕ) (value : Option ℕ) (bytes : List ℕ) → IsEndPayload (call, value) bytes → AreFields (fields (event.EndCall call value)) bytes
+fields_end call None bytes p = (p.first, p.second, p.first_spelled, p.second_spelled, p.whole)
+fields_end call (Some value) bytes p = (p.first, p.second, p.first_spelled, (p.second, [], p.second_spelled, refl, sym (append-nil p.second)), p.whole)
+
+pub end_form : (payload : List ℕ) (v : ℕ × Option ℕ) → IsEndPayload v payload → IsForm 28 payload
+end_form payload (call, value) p = (event.EndCall call value, not_opaque value, same value, fields_end call value payload p)
+  where
+    not_opaque : (value : Option ℕ) → IsOpaque (event.EndCall call value) → ⊥
+    not_opaque value opaque = opaque
+
+    same : (value : Option ℕ) → identifier (event.EndCall call value) ≡ 28
+    same value = refl

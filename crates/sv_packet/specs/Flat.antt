@@ -1,22 +1,33 @@
 -- Flat packets: those that a recorder forms from an identifier, some numbers and a text.
-use Rattle.std.specs.Prelude.{◌≡◌, ℕ, List, [], ◌∷◌, Option, Some, None, ◌==◌, if◌then◌else◌}
-use Rattle.sv_packet.specs.AnyEvent.{AnyEvent, TraceStart, TraceStop, SystimeCycles, Init, NumModules}
+use Rattle.std.specs.Prelude.{◌≡◌, ℕ, Bool, List, [], ◌∷◌, ◌++◌, map, Option, Some, None, ◌==◌, ◌||◌, if◌then◌else◌}
+use Rattle.sv_packet.specs.declared.event.Event.{Event}
+use Rattle.sv_packet.specs.Table.{identifier, fields, Number, Text}
 
 -- how many numbers a flat packet with the identifier has
 abbrev pub flat_count : ℕ → Option ℕ
 flat_count id =
-    if id == 10 then Some 0
+    if id == 1 then Some 1
+    else if id == 9 then Some 2
+    else if id == 10 then Some 0
     else if id == 11 then Some 0
     else if id == 12 then Some 1
+    else if id == 13 then Some 2
+    else if id == 14 then Some 0
+    else if id == 21 then Some 4
+    else if id == 22 then Some 2
     else if id == 24 then Some 4
     else if id == 27 then Some 1
     else None
 
--- the event has the identifier, the numbers in their order, and the text
-abbrev pub IsFlat : ℕ → List ℕ → List ℕ → AnyEvent → Type 0
-IsFlat id numbers text TraceStart = (id ≡ 10) × (numbers ≡ []) × (text ≡ [])
-IsFlat id numbers text TraceStop = (id ≡ 11) × (numbers ≡ []) × (text ≡ [])
-IsFlat id numbers text (SystimeCycles value) = (id ≡ 12) × (numbers ≡ value ∷ []) × (text ≡ [])
-IsFlat id numbers text (Init sys_freq cpu_freq ram_base shift) = (id ≡ 24) × (numbers ≡ sys_freq ∷ cpu_freq ∷ ram_base ∷ shift ∷ []) × (text ≡ [])
-IsFlat id numbers text (NumModules count) = (id ≡ 27) × (numbers ≡ count ∷ []) × (text ≡ [])
-IsFlat id numbers text other = ⊥
+-- whether a text stands behind the numbers
+abbrev pub has_text : ℕ → Bool
+has_text id = id == 9 || id == 14 || id == 22
+
+-- how long that text may be, in bytes
+abbrev pub text_most : ℕ → ℕ
+text_most id = if has_text id then 128 else 0
+
+-- the event has the identifier, the numbers in their order, and the text where it has one
+pub record IsFlat (id : ℕ) (numbers text : List ℕ) (event : Event) : Type 0 where
+  pub same : identifier event ≡ id
+  pub parts : fields event ≡ map Number numbers ++ (if has_text id then Text text ∷ [] else [])

@@ -2,9 +2,12 @@ pub mod Table
 pub mod Packet
 pub mod Packets
 pub mod Time
+pub mod Shape
+pub mod Parts
+pub mod Reason
+pub mod Made
+pub mod Forms
+pub mod Read
 pub mod Reader
-pub mod AnyEvent
-pub mod Fields
-pub mod Spelled
 pub mod Spelling
 pub mod Flat

@@ -1,98 +1,117 @@
 //! One packet from the front of a slice.
-ghost use Rattle.std.specs.Prelude.{◌≡◌, IfOk, IsOk};
-ghost use Rattle.sv_prim.specs.Code.{Tells, IsOnly};
-ghost use Rattle.sv_packet.specs.Packet.{IsPacket, packet_reason};
-ghost use Rattle.sv_packet.specs.Reader.{Reads, ReadsPayload};
+ghost use Rattle.std.specs.Prelude.{◌≡◌, ◌≢◌, ℕ, ◌≤◌, IfOk, IsErr};
+ghost use Rattle.sv_prim.specs.Code.{Begins, Tells, IsOnly};
+ghost use Rattle.sv_packet.specs.declared.event.Event.{Event};
+ghost use Rattle.sv_packet.specs.declared.event.Packet.{Packet};
+ghost use Rattle.sv_packet.specs.Packet.{IsPacket};
+ghost use Rattle.sv_packet.specs.Reason.{packet_reason};
+ghost use Rattle.sv_packet.specs.Made.{HasList};
+ghost use Rattle.sv_packet.specs.Read.{ReadsParts, IsToldBy, told_by};
 
+use crate::building::regular_event;
+use crate::counted::counted_event;
 use crate::event::{Event, Packet};
-use crate::reader::{Reader, Stop};
+use crate::reader::{Four, Reader, Stop};
+use crate::shape::{has_text, numbers_before};
 use std::alloc::Global;
-use sv_prim::{Got, NoMemory, Reason};
+use sv_prim::{Got, NoMemory};
 
-/// The event with this identifier, whose payload comes next. The identifier is the byte before it.
-fn event(id: u8, reader: &mut Reader) -> Result<Event, Stop>
-    ensures { ReadsPayload id reader.old reader.new result }
-{
-    match id {
-        0 => Ok(Event::Nop),
-        1 => Ok(Event::Overflow {
-            count: reader.number()?,
-        }),
-        2 => Ok(Event::IsrEnter {
-            isr: reader.number()?,
-        }),
-        3 => Ok(Event::IsrExit),
-        4 => Ok(Event::TaskStart {
-            task: reader.number()?,
-        }),
-        5 => Ok(Event::TaskStop),
-        6 => Ok(Event::TaskReady {
-            task: reader.number()?,
-        }),
-        8 => Ok(Event::TaskCreate {
-            task: reader.number()?,
-        }),
-        10 => Ok(Event::TraceStart),
-        11 => Ok(Event::TraceStop),
-        12 => Ok(Event::SystimeCycles {
-            value: reader.number()?,
-        }),
-        15 => Ok(Event::MarkStart {
-            id: reader.number()?,
-        }),
-        16 => Ok(Event::MarkStop {
-            id: reader.number()?,
-        }),
-        17 => Ok(Event::Idle),
-        18 => Ok(Event::ToScheduler),
-        19 => Ok(Event::TimerEnter {
-            timer: reader.number()?,
-        }),
-        20 => Ok(Event::TimerExit),
-        _ => Err(Stop::Bad {
-            place: 0,
-            reason: Reason::BadId,
-        }),
-    }
+/// What a packet is made of, as it stands in the slice.
+#[derive(Clone, Copy)]
+pub struct Parts<'a> {
+    pub id: u16,
+    /// The numbers that a payload without a length field begins with, and else zeros.
+    pub four: Four,
+    /// The text that ends such a payload, if it has one. Under a length field the whole payload.
+    pub bytes: &'a [u8],
+    pub delta: u32,
 }
 
-/// The packet that comes next.
-fn packet(reader: &mut Reader) -> Result<Packet, Stop>
-    requires { reader.old.at ≡ 0 }
-    ensures { Reads IsPacket packet_reason reader.old reader.new result }
+/// The parts of the packet that comes next.
+fn read_parts<'a>(reader: &mut Reader<'a>) -> Result<Parts<'a>, Stop>
+    ensures { ReadsParts reader.old reader.new result }
 {
-    let id = reader.byte()?;
-    let event = event(id, reader)?;
+    let id = reader.identifier()?;
+    if id >= 24 {
+        let size = reader.length()?;
+        let bytes = reader.take(usize::from(size))?;
+        let delta = reader.number()?;
+        let four = Four {
+            a: 0,
+            b: 0,
+            c: 0,
+            d: 0,
+        };
+        return Ok(Parts {
+            id,
+            four,
+            bytes,
+            delta,
+        });
+    }
+    let four = reader.numbers(numbers_before(id))?;
+    let bytes = reader.text_if(has_text(id))?;
     let delta = reader.number()?;
-    Ok(Packet { event, delta })
+    Ok(Parts {
+        id,
+        four,
+        bytes,
+        delta,
+    })
 }
 
-/// What stands at the front of the slice.
-fn front(bytes: &[u8]) -> Got<Packet>
-    ensures { Tells IsPacket packet_reason bytes.now result }
+/// The event that the parts tell. It takes memory for a text, arguments or a payload alone.
+fn event_of(alloc: Global, parts: &Parts) -> Result<Event, NoMemory>
+    requires known { parts.now.id ≢ 23 }
+    requires fits { parts.now.id ≤ 16383 }
+    ensures made { IfOk result (IsToldBy parts.now) }
+    ensures memory { IsErr result → (event : Event) ×
+        IsToldBy parts.now event × HasList event }
 {
-    let mut reader = Reader { bytes, at: 0 };
-    match packet(&mut reader) {
-        Ok(packet) => Got::Value {
-            value: packet,
-            used: reader.at,
-        },
-        Err(Stop::Short) => Got::Short,
-        Err(Stop::Bad { place, reason }) => Got::Bad { place, reason },
+    if parts.id < 24 {
+        regular_event(alloc, parts.id, parts.four, parts.bytes)
+    } else {
+        counted_event(alloc, parts.id, parts.bytes)
     }
 }
 
-/// The packet at the front of the slice: its identifier, its payload and its delta in ticks
-/// (UM08027, packet format).
+/// What a stop says of a slice that was read from its first byte.
+fn stopped(stop: Stop) -> Got<Packet>
+    ensures { result ≡ told_by stop }
+{
+    match stop {
+        Stop::Short => Got::Short,
+        Stop::Bad { place, reason } => Got::Bad { place, reason },
+    }
+}
+
+/// The packet at the front of the slice: its identifier, from 24 on its payload's length, its
+/// payload and its delta in ticks (UM08027, packet format).
 ///
-/// The identifiers that are known are 0 to 6, 8, 10 to 12 and 15 to 20, none of which has a length
-/// field. Any other is refused at the offset 0. No known event owns memory, so none is taken from
-/// `alloc` and `NoMemory` does not come.
+/// Identifiers and lengths, numbers and texts are read in their shortest form only, and 23 is no
+/// identifier. A payload under a length field is never refused: it is a known event only where it
+/// is a form of its identifier to its last byte, and else it is kept as bytes.
+///
+/// Memory is taken only for an event that has a text, arguments or a payload, once for each, when
+/// the whole packet is there.
 pub fn decode(alloc: Global, bytes: &[u8]) -> Result<Got<Packet>, NoMemory>
-    ensures found { IsOk result }
     ensures told { IfOk result (λ got. Tells IsPacket packet_reason bytes.now got) }
     ensures only { IfOk result (λ got. IsOnly IsPacket bytes.now got) }
+    ensures memory { IsErr result → (packet : Packet) × (used : ℕ) ×
+        Begins IsPacket bytes.now packet used × HasList packet.event }
 {
-    let _ = alloc;
-    Ok(front(bytes))
+    let mut reader = Reader { bytes, at: 0 };
+    match read_parts(&mut reader) {
+        Ok(parts) => {
+            let event = event_of(alloc, &parts)?;
+            Ok(Got::Value {
+                value: Packet {
+                    event,
+                    delta: parts.delta,
+                },
+                used: reader.at,
+            })
+        }
+        Err(stop) => Ok(stopped(stop)),
+    }
 }

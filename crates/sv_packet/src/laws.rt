@@ -1,29 +1,36 @@
-ghost use Rattle.std.specs.Prelude.{◌≡◌, ℕ, ◌^◌, ◌<◌, ◌↔◌, List};
-ghost use Rattle.sv_prim.specs.Code.{IsPrefixFree, IsTotal};
+ghost use Rattle.std.specs.Prelude.{◌≡◌, ℕ, ◌^◌, ◌<◌, ◌↔◌, ◌++◌, List, length};
+ghost use Rattle.sv_prim.specs.Code.{Begins, IsPrefixFree, IsOneReason, IsTotal};
 ghost use Rattle.sv_packet.specs.declared.event.Packet.{Packet};
-ghost use Rattle.sv_packet.specs.AnyEvent.{AnyEvent, whole};
-ghost use Rattle.sv_packet.specs.Packet.{IsPacket, packet_reason};
-ghost use Rattle.sv_packet.specs.Spelled.{Spells};
-ghost use Rattle.sv_packet.specs.Spelling.{spelling_of, HasFields, IsValid};
+ghost use Rattle.sv_packet.specs.Packet.{IsPacket};
+ghost use Rattle.sv_packet.specs.Reason.{packet_reason};
+ghost use Rattle.sv_packet.specs.Spelling.{spelling_of, HasRange, IsValid};
 
-/// The law of packets' spellings: none begins another and each spells one packet, and of any bytes
-/// it can be told whether a spelling stands at their front, is cut short, or breaks off where.
+/// The law of packets' spellings: a valid event and a delta below 2^32 have one, and it is that of
+/// the function; nothing else has one. That the fields hold what their types can hold is so of
+/// every event of a program.
+pub fn spelled_as()
+    ensures one { (packet : Packet) (bytes : List ℕ) →
+        IsPacket packet bytes ↔
+        (HasRange packet.event × IsValid packet.event × (packet.delta < 2 ^ 32)
+        × (bytes ≡ spelling_of packet.event packet.delta)) }
+{}
+
+/// The law of reading packets: no spelling begins another, so none is a part of another and no two
+/// packets share one; and of any bytes it can be told whether a spelling stands at their front, is
+/// cut short, or breaks off where, for one reason.
 pub fn spelled_once()
     ensures free { IsPrefixFree IsPacket }
     ensures total { IsTotal IsPacket packet_reason }
+    ensures one_reason { IsOneReason packet_reason }
 {}
 
-/// The law of every event's spelling: a valid event and a delta below 2^32 have one, and it is that
-/// of the function. Packets that are decoded are spelled as those of any event.
-pub fn spelled_as()
-    ensures every { (event : AnyEvent) (delta : ℕ) (bytes : List ℕ) →
-        Spells event delta bytes ↔
-        (IsValid event × (delta < 2 ^ 32) × (bytes ≡ spelling_of event delta)) }
-    ensures decoded { (packet : Packet) (bytes : List ℕ) →
-        IsPacket packet bytes ↔ Spells (whole packet.event) packet.delta bytes }
-    ensures known { (packet : Packet) (bytes : List ℕ) →
-        IsPacket packet bytes → bytes ≡ spelling_of (whole packet.event) packet.delta }
-    ensures known_spelled { (packet : Packet) →
-        HasFields 65535 (whole packet.event) → packet.delta < 2 ^ 32 →
-        IsPacket packet (spelling_of (whole packet.event) packet.delta) }
+/// The law of reading back: whatever follows a packet's spelling, it is what [`decode`] finds at
+/// the front, since that is then the only answer.
+///
+/// [`decode`]: crate::decode
+pub fn read_back()
+    ensures { (packet : Packet) (more : List ℕ) →
+        HasRange packet.event → IsValid packet.event → packet.delta < 2 ^ 32 →
+        Begins IsPacket (spelling_of packet.event packet.delta ++ more) packet
+        (length (spelling_of packet.event packet.delta)) }
 {}

@@ -2,20 +2,37 @@
 //!
 //! The contract above this crate: [`decode`] says of any bytes whether they begin with a packet,
 //! end inside one, or break off at which byte and why. [`spelled_once`] is the law that there is
-//! one such answer for any bytes. [`encode`] and [`encode_flat`] form a packet, and [`spelled_as`]
-//! is the law that what they form is its one spelling.
+//! one such answer for any bytes. [`encode`] and [`encode_flat`] form what a recorder takes, as
+//! [`recordable`] tells, and [`spell`] any valid event; [`spelled_as`] is the law that what they
+//! form is its one spelling.
 #![tactic(auto)]
 
+mod building;
+mod counted;
 mod decoding;
 mod encoding;
 mod event;
+mod flat;
+mod forming;
 mod laws;
+mod packing;
+mod pen;
 mod reader;
+mod recording;
+mod shape;
+mod spelling;
 
 pub use decoding::decode;
-pub use encoding::{encode, encode_flat};
+pub use encoding::encode;
 pub use event::{Event, Packet, TimedEvent};
-pub use laws::{spelled_as, spelled_once};
+pub use flat::encode_flat;
+pub use laws::{read_back, spelled_as, spelled_once};
+pub use recording::recordable;
+pub use spelling::spell;
 
+#[cfg(test)]
+mod decoding_tests;
+#[cfg(test)]
+mod length_tests;
 #[cfg(test)]
 mod tests;

@@ -64,7 +64,7 @@ module _ {V : Type 0} (S : V → List ℕ → Type 0) (free : IsPrefixFree S) wh
         ]
       ]
 
-  pub told_only : (why : ℕ → Reason) (bytes : List ℕ) (got : Got V) → Tells S why bytes got → IsOnly S bytes got
+  pub told_only : (why : List ℕ → Reason → Type 0) (bytes : List ℕ) (got : Got V) → Tells S why bytes got → IsOnly S bytes got
   told_only why bytes (Value u m) told = record {
     value = λ v n q. let e = begins_once bytes u v m n told q in cc;
     short = λ q. absurd (begins_not_cut bytes u m told q);

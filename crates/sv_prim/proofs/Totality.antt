@@ -7,13 +7,15 @@ use Rattle.sv_prim.specs.declared.got.Reason.{Reason}
 use Rattle.sv_prim.specs.declared.got.Reason.TheVariants.{BadNumber}
 use Rattle.sv_prim.specs.declared.got.Got.{Got}
 use Rattle.sv_prim.specs.declared.got.Got.TheVariants.{Value, Short, Bad}
-use Rattle.sv_prim.specs.Code.{Begins, GoesOn, IsCutShort, Tells, IsPrefixFree, IsTotal, IsPair}
+use Rattle.sv_prim.specs.Code.{GoesOn, IsCutShort, Tells, IsPrefixFree, IsTotal, IsPair, PairReason}
 use Rattle.sv_prim.specs.Number.{IsGroups, IsNumber, number_reason}
 use Rattle.sv_prim.proofs.Groups.{AreFlagged, AreFlagged-push, groups_behind, number_is, cut_short, padding_breaks, beyond_breaks}
-use Rattle.sv_prim.proofs.Sequence.{pair_begins, pair_short_first, pair_short_second, pair_breaks_first, pair_breaks_second}
+use Rattle.sv_prim.specs.Text.{AreBytes}
+use Rattle.sv_prim.proofs.Below.{bytes_behind}
+use Rattle.sv_prim.proofs.Sequence.{behind, pair_tells_first, pair_tells_second}
 
 -- what is told of the front of some bytes
-abbrev pub IsTold : {V : Type 0} → (V → List ℕ → Type 0) → (ℕ → Reason) → List ℕ → Type 0
+abbrev pub IsTold : {V : Type 0} → (V → List ℕ → Type 0) → (List ℕ → Reason → Type 0) → List ℕ → Type 0
 IsTold {V} S why bytes = (got : Got V) × Tells S why bytes got
 
 -- a byte is below 256
@@ -87,19 +89,16 @@ number_told (b ∷ rest) front flagged few =
     ]
 
 pub number_total : IsTotal IsNumber number_reason
-number_total bytes = number_told bytes [] tt (omega arith)
+number_total bytes are = number_told bytes [] tt (omega arith)
 
-module _ {A B : Type 0} (S : A → List ℕ → Type 0) (T : B → List ℕ → Type 0) (free : IsPrefixFree S) (some : B) (text : List ℕ) (spelled : T some text) (reason : Reason) where
-  pair_told_second : (bytes : List ℕ) (a : A) (m : ℕ) → Begins S bytes a m → (got : Got B) → Tells T (λ place. reason) (drop m bytes) got → IsTold (IsPair S T) (λ place. reason) bytes
-  pair_told_second bytes a m p (Value b n) q = (Value (a, b) (m + n), pair_begins S T free some text spelled bytes a b m n p q)
-  pair_told_second bytes a m p Short q = (Short, pair_short_second S T free some text spelled bytes a m p q)
-  pair_told_second bytes a m p (Bad place why) q = (Bad (m + place) why, (pair_breaks_second S T free some text spelled bytes a m place p q.0, q.1))
+module _ {A B : Type 0} (S : A → List ℕ → Type 0) (T : A → B → List ℕ → Type 0) (free : IsPrefixFree S) (some : (a : A) (front : List ℕ) → S a front → (b : B) × (text : List ℕ) × T a b text)
+    (why : List ℕ → Reason → Type 0) (next : A → List ℕ → Reason → Type 0) where
+  pair_told : (bytes : List ℕ) → AreBytes bytes → ((a : A) (front : List ℕ) → S a front → IsTotal (T a) (next a)) → (got : Got A) → Tells S why bytes got → IsTold (IsPair S T) (PairReason S why next) bytes
+  pair_told bytes are total (Value a m) p =
+      let (got, told) = total a (take m bytes) p.spelled (drop m bytes) (bytes_behind m bytes are) in
+      (behind S T free some why next a m got, pair_tells_second S T free some why next bytes a m p got told)
+  pair_told bytes are total Short p = (Short, pair_tells_first S T free some why next bytes Short Short p refl)
+  pair_told bytes are total (Bad place reason) p = (Bad place reason, pair_tells_first S T free some why next bytes (Bad place reason) (Bad place reason) p refl)
 
-  pair_told : (bytes : List ℕ) → IsTotal T (λ place. reason) → (got : Got A) → Tells S (λ place. reason) bytes got → IsTold (IsPair S T) (λ place. reason) bytes
-  pair_told bytes total (Value a m) p = let second = total (drop m bytes) in pair_told_second bytes a m p second.0 second.1
-  pair_told bytes total Short p = (Short, pair_short_first S T free some text spelled bytes p)
-  pair_told bytes total (Bad place why) p = (Bad place why, (pair_breaks_first S T free some text spelled bytes place p.0, p.1))
-
-  -- where both parts are refused for one reason, wherever they break off
-  pub pair_total : IsTotal S (λ place. reason) → IsTotal T (λ place. reason) → IsTotal (IsPair S T) (λ place. reason)
-  pair_total first second bytes = let front = first bytes in pair_told bytes second front.0 front.1
+  pub pair_total : IsTotal S why → ((a : A) (front : List ℕ) → S a front → IsTotal (T a) (next a)) → IsTotal (IsPair S T) (PairReason S why next)
+  pair_total first second bytes are = let front = first bytes are in pair_told bytes are second front.0 front.1

@@ -1,9 +1,10 @@
 -- Numbers (UM08027, encoding of U32): seven bits in each byte, the least significant group first.
 -- That only the shortest form is read is this format's own rule: so a number has one spelling.
 use Rattle.std.specs.Prelude.{◌≡◌, ◌≢◌, ℕ, zero, suc, ◌+◌, ◌-◌, ◌*◌, ◌/◌, ◌%◌, ◌^◌, ◌<◌, ◌≤◌, List, [], ◌∷◌, length, slice_index, nat_lt, if◌then◌else◌}
-use Rattle.std.specs.List.{flat_map}
+use Rattle.std.specs.List.{flat_map, AllByRecursion}
 use Rattle.sv_prim.specs.declared.got.Reason.{Reason}
 use Rattle.sv_prim.specs.declared.got.Reason.TheVariants.{BadNumber}
+use Rattle.sv_prim.specs.Code.{Always}
 
 -- the seven low bits of each byte, each byte's counting 128 times those of the one before
 abbrev pub groups_sum : List ℕ → ℕ
@@ -25,8 +26,8 @@ pub record IsNumber (value : ℕ) (bytes : List ℕ) : Type 0 where
   pub fits : value < 2 ^ 32
 
 -- a number is refused for one reason
-abbrev pub number_reason : ℕ → Reason
-number_reason place = BadNumber
+abbrev pub number_reason : List ℕ → Reason → Type 0
+number_reason = Always BadNumber
 
 -- a number as seven bits a byte, the lowest first, in at most so many bytes and one more
 abbrev pub groups_of : ℕ → ℕ → List ℕ
@@ -40,3 +41,7 @@ number_spelling value = groups_of 4 value
 -- the spellings of numbers, one after another
 abbrev pub numbers_spelling : List ℕ → List ℕ
 numbers_spelling values = flat_map number_spelling values
+
+-- each element is below 2 ^ 32
+abbrev pub AreWords : List ℕ → Type 0
+AreWords numbers = AllByRecursion (λ number. number < 2 ^ 32) numbers

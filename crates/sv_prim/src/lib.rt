@@ -1,8 +1,10 @@
-//! Numbers as the trace protocol spells them, and what can be told of the front of some bytes.
+//! Numbers and texts as the trace protocol spells them, and what can be told of the front of some
+//! bytes.
 //!
-//! The contract above this crate: a number has exactly one spelling, and [`get_u32`] says of any
-//! bytes whether they begin with one, end inside one, or break off at which byte. [`put_u32`] adds
-//! that spelling to a packet, and [`number_spelled`] is the law that it is the only one.
+//! The contract above this crate: a number and a text have exactly one spelling each. [`get_u32`]
+//! and [`get_text`] say of any bytes whether they begin with one, end inside one, or break off at
+//! which byte. [`put_u32`] and [`put_text`] add that spelling to a packet, and [`number_spelled`] is
+//! the law that a number has no other.
 #![tactic(auto)]
 
 mod buf;
@@ -11,6 +13,8 @@ mod got;
 mod laws;
 mod memory;
 mod number;
+mod numbers;
+mod text;
 mod ticks;
 
 pub use buf::Buf;
@@ -19,6 +23,8 @@ pub use got::{Got, Reason};
 pub use laws::number_spelled;
 pub use memory::NoMemory;
 pub use number::{get_u32, put_u32};
+pub use numbers::Numbers;
+pub use text::{TextAt, get_text, put_text};
 pub use ticks::delta;
 
 #[cfg(test)]

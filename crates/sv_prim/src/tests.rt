@@ -75,3 +75,74 @@ fn ticks_between(rt: HostRuntime) {
         assert_eq!(rt; delta(now, last), want, "from {last} to {now}");
     }
 }
+
+#[test]
+fn texts_added(rt: HostRuntime) {
+    let long = [0x41; 128];
+    for (text, want) in [
+        ([].as_slice(), [0x00].as_slice()),
+        ([0x4f, 0x53].as_slice(), [0x02, 0x4f, 0x53].as_slice()),
+    ] {
+        let mut out = Buf::new();
+        put_text(text, &mut out);
+        assert_eq!(rt; out.as_slice(), want, "of {text:?}");
+    }
+    let mut out = Buf::new();
+    put_text(&long, &mut out);
+    assert_eq!(rt; out.as_slice()[0], 0x80);
+    assert_eq!(rt; &out.as_slice()[1..], long.as_slice());
+}
+
+#[test]
+fn lists_that_own_their_memory(rt: HostRuntime) -> Result<(), Fail> {
+    let alloc = rt.alloc();
+    let bytes = Bytes::new(alloc, &[0x4f, 0x53])?;
+    assert_eq!(rt; bytes.bytes(), [0x4f, 0x53].as_slice());
+    let numbers = Numbers::new(alloc, &[7, 4294967295])?;
+    assert_eq!(rt; numbers.numbers(), [7, 4294967295].as_slice());
+    assert!(rt; numbers != Numbers::new(alloc, &[7])?);
+    Ok(())
+}
+
+#[test]
+fn texts_at_the_front(rt: HostRuntime) -> Result<(), Fail> {
+    for (bytes, want) in [
+        (
+            [0x02, 0x4f, 0x53, 0x05].as_slice(),
+            Got::Value {
+                value: TextAt { start: 1, len: 2 },
+                used: 3,
+            },
+        ),
+        (
+            [0x00].as_slice(),
+            Got::Value {
+                value: TextAt { start: 1, len: 0 },
+                used: 1,
+            },
+        ),
+        ([].as_slice(), Got::Short),
+        ([0x02, 0x4f].as_slice(), Got::Short),
+        ([0xff, 0xff].as_slice(), Got::Short),
+        ([0xff, 0x00, 0x01, 0x41].as_slice(), Got::Short),
+        (
+            [0xff, 0xfe, 0x00].as_slice(),
+            Got::Bad {
+                place: 2,
+                reason: Reason::BadText,
+            },
+        ),
+    ] {
+        assert_eq!(rt; get_text(bytes), want, "at {bytes:?}");
+    }
+    let mut long = [0xff, 0xff, 0x00].as_slice().to_vec(rt.alloc())?;
+    long.resize(300, 0x41)?;
+    assert_eq!(rt;
+        get_text(long.as_slice()),
+        Got::Value {
+            value: TextAt { start: 3, len: 255 },
+            used: 258
+        }
+    );
+    Ok(())
+}

@@ -38,7 +38,7 @@ headed_behind (Command byte param) count moment freed freed_now told outcome = r
 
 -- an overflow has its place in what a packet may have
 pub bytes_behind : (load : Load) (origin : Origin) → IsFormed load origin → 11 + block_bytes load origin ≡ packet_bytes load origin
-bytes_behind load (Call writer step) (event, is) =
+bytes_behind load (Call writer step) (event, is, can) =
     let bytes : option_map_or act_bytes (act_of load writer step) 0 ≡ act_bytes (acts.Event event) = ap (λ act. option_map_or act_bytes act 0) is in
     omega (arith, bytes)
 bytes_behind load (Overflow count) formed = refl

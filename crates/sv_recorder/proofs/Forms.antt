@@ -1,8 +1,9 @@
 -- How long the packets of replies are.
-use Rattle.std.proofs.Common.{◌≡◌, ℕ, zero, suc, ◌+◌, ◌-◌, ◌%◌, ◌/◌, ◌≤◌, Bool, true, false, cond, List, [], ◌∷◌, ◌++◌, length, refl, arith}
+use Rattle.std.proofs.Common.{◌≡◌, ℕ, ◌+◌, ◌-◌, ◌%◌, ◌/◌, ◌≤◌, Bool, true, false, cond, List, [], ◌∷◌, ◌++◌, length, refl, arith}
 use Rattle.std.specs.Prelude.{nat_lt}
 use Rattle.std.proofs.lemmas.List.{length-append}
-use Rattle.sv_prim.specs.Number.{groups_of, number_spelling}
+use Rattle.sv_prim.specs.Number.{number_spelling}
+use Rattle.sv_prim.proofs.Spellings.{of_few}
 use Rattle.sv_packet.specs.Spelling.{short_spelling}
 use Rattle.sv_workload.specs.Load.{Load, period}
 use Rattle.sv_recorder.specs.declared.journal.Kind.{Kind}
@@ -13,16 +14,8 @@ use Rattle.sv_recorder.specs.Plain.{IsPlain}
 use Rattle.sv_recorder.specs.Writes.{packet_block}
 use Rattle.sv_recorder.specs.Formed.{IsPlainKind, block_bytes}
 
-groups_short : (more value : ℕ) → length (groups_of more value) ≤ suc more
-groups_short zero value = omega arith
-groups_short (suc more) value = by (nat_lt value 128) more value (groups_short more (value / 128))
-  where
-    by : (b : Bool) (more value : ℕ) → length (groups_of more (value / 128)) ≤ suc more → length (cond b (value ∷ []) ((value % 128 + 128) ∷ groups_of more (value / 128))) ≤ suc (suc more)
-    by true more value h = omega arith
-    by false more value h = omega (arith, h)
-
-pub number_short : (value : ℕ) → length (number_spelling value) ≤ 5
-number_short value = groups_short 4 value
+number_short : (value : ℕ) → length (number_spelling value) ≤ 5
+number_short value = of_few 4 value
 
 short_short : (n : ℕ) → length (short_spelling n) ≤ 2
 short_short n = by (nat_lt n 128) n

@@ -2,6 +2,7 @@ pub mod Short
 pub mod Alone
 pub mod Moving
 pub mod Refusals
+mod Texts
 pub mod Restarted
 pub mod Asked
 pub mod Stopped

@@ -23,9 +23,9 @@ got [] place d within = absurd (omega (arith, within))
 got (s ∷ steps) zero d within = cc
 got (s ∷ steps) (suc place) d within = got steps place d (omega (arith, within))
 
-pub at_place : (steps script : List Step) (place : ℕ) (d : Step) → steps ≡ script → place ≤ length script → (place ≡ length steps → ⊥) → slice_get script place ≡ Some (slice_index_or steps place d)
-at_place steps script place d is within not =
-    ap (λ (s : List Step). slice_get s place) (sym is) ∙ got steps place d (omega (arith, ap length is, within, not))
+pub at_place : (steps script : List Step) (place : ℕ) (step : Step) → steps ≡ script → place ≤ length script → (place ≡ length steps → ⊥) → step ≡ slice_index_or steps place step → slice_get script place ≡ Some step
+at_place steps script place step is within not at =
+    ap (λ (s : List Step). slice_get s place) (sym is) ∙ got steps place step (omega (arith, ap length is, within, not)) ∙ ap (λ (s : Step). Some s) (sym at)
 
 module _ {U : Type 0} (ring : U → List (List ℕ)) (size limit : U → ℕ) (sent : U → List ℕ) (freed : U → ℕ) (way : U → Way) where
   abbrev Keeping : Book U → ℕ → Type 0
@@ -44,13 +44,12 @@ module _ {U : Type 0} (ring : U → List (List ℕ)) (size limit : U → ℕ) (s
   pub writer_zero : (old : Book U) (place writer : ℕ) (view : Recording) → Shown old ≡ view → Keeping old place → writer < length view.load.scripts → writer ≡ 0
   writer_zero old place writer view is r within = only_writer old.load.now writer r.plain (subst (λ (v : Recording). writer < length v.load.scripts) (sym is) within)
 
-  pub after : (old new : Book U) (writer place : ℕ) (steps : List Step) (d : Step) → Keeping old place → writer ≡ 0 → steps ≡ script_of old.load.now writer → (place ≡ length steps → ⊥)
-      → Kept old new writer place → Gone old new writer place (slice_index_or steps place d)
-      → new.moment ≡ old.moment + (slice_index_or steps place d).advance → new.last ≤ new.moment
+  pub after : (old new : Book U) (writer place : ℕ) (steps : List Step) (step : Step) → Keeping old place → writer ≡ 0 → steps ≡ script_of old.load.now writer → (place ≡ length steps → ⊥) → step ≡ slice_index_or steps place step
+      → Kept old new writer place → Gone old new writer place step
+      → new.moment ≡ old.moment + step.advance → new.last ≤ new.moment
       → Keeping new (place + 1)
-  after old new writer place steps d r only is not kept goes moment later =
-      let step = slice_index_or steps place d in
-      let of = at_place steps (script_of old.load.now 0) place d (subst (λ (w : ℕ). steps ≡ script_of old.load.now w) only is) r.within not in
+  after old new writer place steps step r only is not at kept goes moment later =
+      let of = at_place steps (script_of old.load.now 0) place step (subst (λ (w : ℕ). steps ≡ script_of old.load.now w) only is) r.within not at in
       taken ring size limit sent freed way old new place step r of (subst (λ (w : ℕ). Kept old new w place) only kept) (subst (λ (w : ℕ). Gone old new w place step) only goes) moment later
 
   abbrev SectionOf : Recording → Book U → ℕ → Type 0

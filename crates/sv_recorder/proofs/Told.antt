@@ -11,8 +11,9 @@ use Rattle.sv_recorder.specs.Stream.{stream_of, sent_events, IsCalm}
 use Rattle.sv_recorder.proofs.Short.{at, start, mark}
 use Rattle.std.proofs.Common.{ap}
 use Rattle.std.specs.Prelude.{slice_index}
-use Rattle.sv_packet.specs.AnyEvent.{AnyEvent, TimedAny}
-use Rattle.sv_packet.specs.AnyEvent as events
+use Rattle.sv_packet.specs.declared.event.Event.{Event}
+use Rattle.sv_packet.specs.declared.event.TimedEvent.{TimedEvent}
+use Rattle.sv_packet.specs.declared.event.Event.TheVariants as events
 use Rattle.sv_workload.specs.Need.{need_items, need_bytes}
 use Rattle.sv_recorder.proofs.Short.{Same}
 use Rattle.sv_recorder.proofs.Refusals as refusals
@@ -23,7 +24,7 @@ abbrev first_byte : List Asked → ℕ
 first_byte [] = 0
 first_byte (c ∷ cs) = c.byte
 
-abbrev told : ℕ → AnyEvent → TimedAny
+abbrev told : ℕ → Event → TimedEvent
 told time event = record { time = time; event = event }
 
 sent_refusals : sent_events refusals.load refusals.items ≡ told 0 (events.TraceStart) ∷ told 0 (events.Init 1000000 1000000 536870912 2) ∷ told 0 (events.SystimeCycles 0) ∷ told 0 (events.NumModules 0) ∷ told 1 (events.MarkStart 5) ∷ told 2 (events.MarkStart 5) ∷ told 3 (events.MarkStart 5) ∷ told 4 (events.MarkStart 5) ∷ told 5 (events.MarkStart 5) ∷ told 6 (events.MarkStart 5) ∷ told 7 (events.MarkStart 5) ∷ told 8 (events.MarkStart 5) ∷ told 9 (events.MarkStart 5) ∷ told 13 (events.Overflow 3) ∷ told 13 (events.MarkStart 5) ∷ []

@@ -2,6 +2,7 @@
 use Rattle.std.specs.Prelude.{◌≡◌, ℕ, ◌-◌, Some}
 use Rattle.std.specs.Option.{option_map_or}
 use Rattle.sv_packet.specs.declared.event.Event.{Event}
+use Rattle.sv_packet.specs.Spelling.{IsRecordable}
 use Rattle.sv_workload.specs.declared.load.Act.TheVariants as acts
 use Rattle.sv_workload.specs.Load.{Load, act_of}
 use Rattle.sv_workload.specs.Need.{act_bytes}
@@ -22,9 +23,9 @@ IsPlainKind kinds.Task = ⊥
 IsPlainKind kinds.Stack = ⊥
 IsPlainKind kinds.Module = ⊥
 
--- an item's packet can be formed: a step's event, an overflow, or a plain reply
+-- an item's packet can be formed: a step's event that a recorder takes, an overflow, or a plain reply
 abbrev pub IsFormed : Load → Origin → Type 0
-IsFormed load (Call writer step) = (event : Event) × (act_of load writer step ≡ Some (acts.Event event))
+IsFormed load (Call writer step) = (event : Event) × (act_of load writer step ≡ Some (acts.Event event)) × IsRecordable event
 IsFormed load (Overflow count) = Unit {0}
 IsFormed load (Reply kind index) = IsPlainKind kind
 IsFormed load Sync = ⊥

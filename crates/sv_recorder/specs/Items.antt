@@ -2,8 +2,8 @@
 use Rattle.std.specs.Prelude.{ℕ, ◌-◌, ◌*◌, ◌/◌, ◌%◌, ◌^◌, Bool, true, false, not, ◌&&◌, ◌||◌, List, [], ◌∷◌, ◌++◌, length, slice_get, slice_index_or, replicate, reverse, find, count_by, take, take_while, ◌==◌, if◌then◌else◌}
 use Rattle.std.specs.Option.{option_map_or}
 use Rattle.sv_prim.specs.Shrink.{shrunk}
-use Rattle.sv_packet.specs.AnyEvent.{AnyEvent, whole}
-use Rattle.sv_packet.specs.AnyEvent as events
+use Rattle.sv_packet.specs.declared.event.Event.{Event}
+use Rattle.sv_packet.specs.declared.event.Event.TheVariants as events
 use Rattle.sv_packet.specs.Spelling.{spelling_of}
 use Rattle.sv_workload.specs.declared.load.Act.{Act}
 use Rattle.sv_workload.specs.declared.load.Act.TheVariants as acts
@@ -122,23 +122,23 @@ is_written earlier item =
 abbrev pub micros_at : Load → ℕ → ℕ
 micros_at load moment = ((moment * 1000000) / load.clock) % 2 ^ 64
 
-abbrev pub system_time : Load → ℕ → AnyEvent
+abbrev pub system_time : Load → ℕ → Event
 system_time load moment =
     if load.timed
     then events.SystimeUs (micros_at load moment % 2 ^ 32) (micros_at load moment / 2 ^ 32)
     else events.SystimeCycles (moment % period load)
 
-abbrev pub task_info : Load → Task → AnyEvent
+abbrev pub task_info : Load → Task → Event
 task_info load task = events.TaskInfo (shrunk task.id load.base load.shift) task.priority task.name
 
-abbrev pub stack_info : Load → Task → AnyEvent
+abbrev pub stack_info : Load → Task → Event
 stack_info load task = events.StackInfo (shrunk task.id load.base load.shift) task.stack_base task.stack_size task.extra
 
-abbrev pub module_desc : Load → ℕ → ModuleRow → AnyEvent
+abbrev pub module_desc : Load → ℕ → ModuleRow → Event
 module_desc load index row = events.ModuleDesc index (offset_after (take index load.modules)) row.name
 
 -- what a reply tells; Nop where there is no such task or module
-abbrev pub reply_event : Load → ℕ → Kind → ℕ → AnyEvent
+abbrev pub reply_event : Load → ℕ → Kind → ℕ → Event
 reply_event load moment kinds.TraceStart index = events.TraceStart
 reply_event load moment kinds.Init index = events.Init load.clock load.cpu load.base load.shift
 reply_event load moment kinds.Line index = events.SysDesc (slice_index_or load.lines index [])
@@ -150,20 +150,20 @@ reply_event load moment kinds.Module index = option_map_or (module_desc load ind
 reply_event load moment kinds.TraceStop index = events.TraceStop
 
 -- the event that a step records; Nop for a start or a stop
-abbrev pub act_event : Act → AnyEvent
-act_event (acts.Event event) = whole event
+abbrev pub act_event : Act → Event
+act_event (acts.Event event) = event
 act_event acts.Start = events.Nop
 act_event acts.Stop = events.Nop
 
 -- what an item tells; Nop where it tells nothing
-abbrev pub event_at : Load → ℕ → Origin → AnyEvent
+abbrev pub event_at : Load → ℕ → Origin → Event
 event_at load moment (Call writer step) = option_map_or act_event (act_of load writer step) events.Nop
 event_at load moment (Overflow count) = events.Overflow count
 event_at load moment (Reply kind index) = reply_event load moment kind index
 event_at load moment Sync = events.Nop
 event_at load moment (Command byte param) = events.Nop
 
-abbrev pub event_of : Load → Item → AnyEvent
+abbrev pub event_of : Load → Item → Event
 event_of load item = event_at load item.moment item.origin
 
 -- the ticks since the latest stored packet, as the counter shows them

@@ -1,10 +1,10 @@
 //! The groups of items that a step gives: an event, a start or a stop with its answers.
 ghost use Rattle.std.specs.Prelude.{◌≡◌, ℕ, ◌+◌, ◌*◌, ◌<◌, ◌≤◌, ◌^◌, List, [], ◌∷◌, ◌++◌, true, Some, map, length, vec_capacity};
 ghost use Rattle.std.specs.List.{list_all};
-ghost use Rattle.sv_packet.specs.declared.event.Event.{Event};
 ghost use Rattle.sv_workload.specs.Load.{act_of, step_of};
+ghost use Rattle.sv_workload.specs.Need.{IsStepAct};
 ghost use Rattle.sv_recorder.specs.declared.journal.Item.{Item};
-ghost use Rattle.sv_recorder.specs.Formed.{packet_bytes};
+ghost use Rattle.sv_recorder.specs.Formed.{IsFormed, packet_bytes};
 ghost use Rattle.sv_recorder.specs.Needs.{step_items, step_bytes};
 ghost use Rattle.sv_recorder.specs.Clock.{clock_of, is_start_kind, reply_of};
 ghost use Rattle.sv_recorder.specs.Items.{latest_first};
@@ -143,8 +143,7 @@ impl<'w, U: UpWriter + Drop> Book<'w, U> {
 
     /// A step that records an event.
     fn event(&mut self, writer: u32, step: u32) -> Answer
-        requires act { (event : Event)
-            × (act_of self.old.load.now writer step ≡ Some (acts.Event event)) }
+        requires formed { IsFormed self.old.load.now (Call writer step) }
         requires plain { IsPlain self.old.load.now }
         requires ring { U.size self.old.up ≡ self.old.load.now.ring }
         requires room { length self.old.journal.items + 2 ≤ vec_capacity self.old.journal }
@@ -171,6 +170,7 @@ impl<'w, U: UpWriter + Drop> Book<'w, U> {
     /// The next step of a writer's script: its ticks pass, and then it records what it says.
     pub fn take(&mut self, writer: u32, place: u32, step: &Step) -> Answer
         requires step { step_of self.old.load.now writer place ≡ Some step.now }
+        requires act { IsStepAct step.now.act }
         requires plain { IsPlain self.old.load.now }
         requires ring { U.size self.old.up ≡ self.old.load.now.ring }
         requires room { length self.old.journal.items + step_items step.now ≤ vec_capacity self.old.journal }

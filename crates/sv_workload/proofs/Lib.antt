@@ -3,5 +3,6 @@ pub mod FirstLine
 pub mod Needs
 pub mod Scripts
 pub mod Steps
+pub mod Acts
 pub mod Once
 mod Examples

@@ -10,7 +10,7 @@ use Rattle.std.proofs.lemmas.List.{length-append}
 use Rattle.std.proofs.lemmas.List.Sums.{split_at_first, passes_at_first}
 use Rattle.std.proofs.lemmas.Slice.Eq.{bytes_eq-Decides}
 use Rattle.std.proofs.Math.Seq.{take-append_seam, drop-append-add}
-use Rattle.sv_packet.specs.declared.event.Event.TheVariants.{Nop, Overflow, IsrEnter, IsrExit, TaskStart, TaskStop, TaskReady, TaskCreate, TraceStart, TraceStop, SystimeCycles, MarkStart, MarkStop, Idle, ToScheduler, TimerEnter, TimerExit}
+use Rattle.sv_packet.specs.declared.event.Event.TheVariants.{Nop, IsrEnter, IsrExit, TaskStop, MarkStart, MarkStop, Idle, ToScheduler}
 use Rattle.sv_workload.specs.declared.load.Act.{Act}
 use Rattle.sv_workload.specs.declared.load.Act.TheVariants.{Event, Start, Stop}
 use Rattle.sv_workload.specs.declared.load.Step.{Step}
@@ -125,22 +125,14 @@ act_read : (words : List ℕ) (act : Act) → MeansAct words act → act_of word
 act_read words Start e = ap act_of e
 act_read words Stop e = ap act_of e
 act_read words (Event Nop) e = ap act_of e
-act_read words (Event (Overflow count)) e = absurd e
 act_read words (Event (IsrEnter isr)) e = numbered_read (codes "isr") words isr refl e
 act_read words (Event IsrExit) e = ap act_of e
-act_read words (Event (TaskStart task)) e = absurd e
 act_read words (Event TaskStop) e = ap act_of e
-act_read words (Event (TaskReady task)) e = absurd e
-act_read words (Event (TaskCreate task)) e = absurd e
-act_read words (Event TraceStart) e = absurd e
-act_read words (Event TraceStop) e = absurd e
-act_read words (Event (SystimeCycles value)) e = absurd e
 act_read words (Event (MarkStart id)) e = numbered_read (codes "mark") words id refl e
 act_read words (Event (MarkStop id)) e = numbered_read (codes "mark-end") words id refl e
 act_read words (Event Idle) e = ap act_of e
 act_read words (Event ToScheduler) e = ap act_of e
-act_read words (Event (TimerEnter timer)) e = absurd e
-act_read words (Event TimerExit) e = absurd e
+act_read words (Event other) e = absurd e
 
 -- a whole line
 

@@ -1,7 +1,6 @@
 -- How many items and bytes a journal of a workload and its stream have at most.
 use Rattle.std.specs.Prelude.{◌≡◌, ℕ, ◌+◌, ◌*◌, ◌<◌, ◌≤◌, length, sum_by, Bool, true, false, All}
-use Rattle.sv_packet.specs.AnyEvent.{whole}
-use Rattle.sv_packet.specs.Spelling.{spelling_of}
+use Rattle.sv_packet.specs.Spelling.{spelling_of, IsRecordable}
 use Rattle.sv_workload.specs.declared.load.Act.{Act}
 use Rattle.sv_workload.specs.declared.load.Act.TheVariants.{Event, Start, Stop}
 use Rattle.sv_workload.specs.declared.load.Step.{Step}
@@ -42,7 +41,7 @@ replies_in load = 4 + length load.lines + 2 * length load.tasks + length load.mo
 
 -- the bytes of an event step's packet and of its overflow, with the longest deltas
 abbrev pub act_bytes : Act → ℕ
-act_bytes (Event event) = length (spelling_of (whole event) 0) + 15
+act_bytes (Event event) = length (spelling_of event 0) + 15
 act_bytes Start = 0
 act_bytes Stop = 17
 
@@ -51,6 +50,13 @@ need_items load = 3 * steps_in load + (starts_in load + length load.commands) * 
 
 abbrev pub need_bytes : Load → ℕ
 need_bytes load = 16 + over_steps (λ s. act_bytes s.act) load + (starts_in load + length load.commands) * (27 + 156 * replies_in load)
+
+-- what a step may do: it records an event that a recorder takes, in a packet no longer than that of the name of a
+-- resource with 128 bytes; or it starts or stops the recorder
+abbrev pub IsStepAct : Act → Type 0
+IsStepAct (Event event) = IsRecordable event × (length (spelling_of event 0) ≤ 138)
+IsStepAct Start = Unit {0}
+IsStepAct Stop = Unit {0}
 
 -- the most of everything that a workload holds
 pub record IsWithinLimits (load : Load) : Type 0 where
@@ -62,6 +68,7 @@ pub record IsWithinLimits (load : Load) : Type 0 where
   pub tasks : length load.tasks ≤ 32
   pub modules : length load.modules ≤ 64
   pub advances : All (λ script. All (λ s. s.advance ≤ 8589934592) script) load.scripts
+  pub acts : All (λ script. All (λ s. IsStepAct s.act) script) load.scripts
 
 -- the need is that of the workload, which is within the limits
 pub record HasNeed (load : Load) (need : Need) : Type 0 where

@@ -7,7 +7,7 @@ use Rattle.sv_packet.specs.declared.event.Event.TheVariants.{Nop, IsrEnter, IsrE
 use Rattle.sv_workload.specs.declared.load.Act.{Act}
 use Rattle.sv_workload.specs.declared.load.Act.TheVariants.{Event, Start, Stop}
 use Rattle.sv_workload.specs.declared.load.Step.{Step}
-use Rattle.sv_workload.specs.Need.{one_if, is_start_act, act_bytes}
+use Rattle.sv_workload.specs.Need.{one_if, is_start_act, act_bytes, IsStepAct}
 use Rattle.sv_workload.specs.Form.{begins_well, lines_of, IsShort}
 
 abbrev pub is_space : ℕ → Bool
@@ -67,8 +67,9 @@ pub record IsCounted (steps : List Step) (starts bytes : ℕ) : Type 0 where
   pub short : IsShort steps
   pub starts_is : starts ≡ sum_by (λ s. one_if (is_start_act s.act)) steps
   pub bytes_is : bytes ≡ sum_by (λ s. act_bytes s.act) steps
-  pub small : bytes ≤ 22 * length steps
+  pub small : bytes ≤ 153 * length steps
   pub advances : All (λ s. s.advance ≤ 8589934592) steps
+  pub acts : All (λ s. IsStepAct s.act) steps
 
 -- the first line of a text, and what stands behind it
 pub record IsNext (text line rest : List ℕ) : Type 0 where

@@ -1,15 +1,13 @@
 ghost use Rattle.std.specs.Prelude.{◌≡◌, ◌≤◌, ◌∷◌, ◌++◌, [], length, ◌↔◌, IsTrue, OnOk, OnErr, IfOk};
-ghost use Rattle.sv_prim.specs.Number.{number_spelling};
-ghost use Rattle.sv_packet.specs.AnyEvent.{whole};
-ghost use Rattle.sv_packet.specs.Spelling.{spelling_of};
-ghost use Rattle.sv_workload.specs.Need.{act_bytes, one_if, is_start_act};
+ghost use Rattle.sv_packet.specs.Spelling.{spelling_of, IsRecordable};
+ghost use Rattle.sv_workload.specs.Need.{act_bytes, one_if, is_start_act, IsStepAct};
 ghost use Rattle.sv_workload.specs.Form.{IsShort, one_writer};
 
 use crate::load::{Act, Need, Step, Workload};
 use std::alloc::Global;
 use std::marker::Model;
-use sv_packet::Event;
-use sv_prim::NoMemory;
+use sv_packet::{Event, encode};
+use sv_prim::{Buf, NoMemory};
 
 /// The steps of a writer that were read so far, and what is counted over them.
 #[derive(Drop)]
@@ -31,58 +29,24 @@ impl Model for Script {
     ghost invariant = { λ s. IsCounted s.steps.items s.starts s.bytes };
 }
 
-/// How many bytes a number's spelling has.
-fn number_len(n: u32) -> u64
-    ensures { result ≡ length (number_spelling n) }
-{
-    if n < 1 << 7 {
-        return 1;
-    }
-    if n < 1 << 14 {
-        return 2;
-    }
-    if n < 1 << 21 {
-        return 3;
-    }
-    if n < 1 << 28 {
-        return 4;
-    }
-    5
-}
-
 /// How many bytes the spelling of an event has, with the delta 0.
-fn event_len(event: Event) -> u64
-    ensures len { result ≡ length (spelling_of (whole event) 0) }
-    ensures most { result ≤ 7 }
+fn event_len(event: &Event) -> u64
+    requires recordable { IsRecordable event.now }
+    ensures { result ≡ length (spelling_of event.now 0) }
 {
-    match event {
-        Event::Nop => 2,
-        Event::Overflow { count } => 2 + number_len(count),
-        Event::IsrEnter { isr } => 2 + number_len(isr),
-        Event::IsrExit => 2,
-        Event::TaskStart { task } => 2 + number_len(task),
-        Event::TaskStop => 2,
-        Event::TaskReady { task } => 2 + number_len(task),
-        Event::TaskCreate { task } => 2 + number_len(task),
-        Event::TraceStart => 2,
-        Event::TraceStop => 2,
-        Event::SystimeCycles { value } => 2 + number_len(value),
-        Event::MarkStart { id } => 2 + number_len(id),
-        Event::MarkStop { id } => 2 + number_len(id),
-        Event::Idle => 2,
-        Event::ToScheduler => 2,
-        Event::TimerEnter { timer } => 2 + number_len(timer),
-        Event::TimerExit => 2,
-    }
+    let mut packet = Buf::new();
+    encode(event, 0, &mut packet);
+    packet.len() as u64
 }
 
 /// How many bytes of a stream a step needs at most.
 fn act_bytes(act: &Act) -> u64
+    requires act { IsStepAct act.now }
     ensures bytes { result ≡ act_bytes act.now }
-    ensures most { result ≤ 22 }
+    ensures most { result ≤ 153 }
 {
     match act {
-        Act::Event(event) => event_len(*event) + 15,
+        Act::Event(event) => event_len(event) + 15,
         Act::Start => 0,
         Act::Stop => 17,
     }
@@ -121,6 +85,7 @@ impl Script {
     pub fn push(&mut self, step: Step) -> Result<(), NoMemory>
         requires room { IsShort (self.old ++ step ∷ []) }
         requires advance { step.advance ≤ 8589934592 }
+        requires act { IsStepAct step.act }
         ensures ok { OnOk result (self.new ≡ self.old ++ step ∷ []) }
         ensures err { OnErr result (self.new ≡ self.old) }
     {

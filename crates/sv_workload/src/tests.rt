@@ -8,13 +8,13 @@ fn told(step: &Step) -> (u64, u32, u32) {
     let (what, number) = match &step.act {
         Act::Start => (100, 0),
         Act::Stop => (101, 0),
-        Act::Event(event) => match *event {
+        Act::Event(event) => match event {
             Event::Nop => (0, 0),
-            Event::IsrEnter { isr } => (2, isr),
+            Event::IsrEnter { isr } => (2, *isr),
             Event::IsrExit => (3, 0),
             Event::TaskStop => (5, 0),
-            Event::MarkStart { id } => (15, id),
-            Event::MarkStop { id } => (16, id),
+            Event::MarkStart { id } => (15, *id),
+            Event::MarkStop { id } => (16, *id),
             Event::Idle => (17, 0),
             Event::ToScheduler => (18, 0),
             _ => (99, 0),

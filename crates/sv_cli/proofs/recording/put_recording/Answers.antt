@@ -1,7 +1,7 @@
 use Rattle.sv_base.proofs.Writing.{Appends-then}
 use Rattle.sv_cli.specs.Recorded.{header}
-use Rattle.sv_cli.proofs.Outcomes.{part_more}
-use Rattle.sv_cli.proofs.UnderWay.{on_err, part_behind}
+use Rattle.sv_cli.proofs.Parts.{part_more}
+use Rattle.sv_cli.proofs.Parts.{on_err, part_behind}
 use Rattle.sv_cli.proofs.recording.put_recording.Goals as goal
 
 pub returns-in_err-put_all-clause-err : goal.returns-in_err-put_all-clause-err

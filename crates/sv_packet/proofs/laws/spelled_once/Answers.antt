@@ -1,5 +1,5 @@
-use Rattle.sv_packet.proofs.Packets.{packet_free}
-use Rattle.sv_packet.proofs.Totality.{packet_total}
+use Rattle.sv_packet.proofs.Free.{packet_free}
+use Rattle.sv_packet.proofs.Totality.{packet_total, reason_one}
 use Rattle.sv_packet.proofs.laws.spelled_once.Goals as goal
 
 pub returns-clause-free : goal.returns-clause-free
@@ -7,3 +7,6 @@ returns-clause-free c = packet_free
 
 pub returns-clause-total : goal.returns-clause-total
 returns-clause-total c = packet_total
+
+pub returns-clause-one_reason : goal.returns-clause-one_reason
+returns-clause-one_reason c = reason_one

@@ -1,5 +1,5 @@
 use Rattle.std.proofs.Common.{◌≡◌, ◌≤◌, ◌∙◌, List, ℕ, length, sym, ap, subst}
-use Rattle.sv_packet.specs.AnyEvent.{AnyEvent}
+use Rattle.sv_packet.specs.declared.event.Event.{Event}
 use Rattle.sv_packet.specs.Spelling.{spelling_of}
 use Rattle.sv_recorder.specs.declared.journal.Origin.TheVariants.{Reply}
 use Rattle.sv_recorder.specs.Formed.{block_bytes}
@@ -15,5 +15,5 @@ returns-in-Reply-clause-short c =
     let index = c.in-Reply.index in
     let plain = rw c.in-Reply.is at c.requires.formed in
     let block : c.form_reply.new.block.items ≡ packet_block load (Reply kind index) c.args.moment c.args.last =
-    c.form_reply.ensures.block ∙ ap (λ (event : AnyEvent). spelling_of event c.delta-ticks.result) (same_reply load c.args.moment kind index plain) ∙ ap (spelling_of (reply_event load c.args.moment kind index)) c.delta-ticks.ensures in
+    c.form_reply.ensures.block ∙ ap (λ (event : Event). spelling_of event c.delta-ticks.result) (same_reply load c.args.moment kind index plain) ∙ ap (spelling_of (reply_event load c.args.moment kind index)) c.delta-ticks.ensures in
     rw c.in-Reply.is (subst (λ (b : List ℕ). length b ≤ block_bytes load (Reply kind index)) (sym block) (reply_short load kind index c.args.moment c.args.last c.requires.plain plain))

@@ -4,7 +4,14 @@ use Rattle.std.proofs.lemmas.List.{nil_from_length}
 use Rattle.sv_workload.specs.declared.load.Step.{Step}
 use Rattle.sv_workload.specs.Form.{IsShort}
 use Rattle.sv_workload.proofs.Scripts.{Walk, walk_goes_on, walk_stops, walk_ends}
+use Rattle.sv_workload.proofs.Acts.{step_act}
+use Rattle.sv_workload.proofs.Steps.{step_means}
 use Rattle.sv_workload.proofs.parsing.parse.Goals as goal
+
+pub push-requires-clause-act : goal.push-requires-clause-act
+push-requires-clause-act c =
+    let means = step_means c.first_line-in-loop-rest.result.0.now c.in-Some.step (sym c.step.ensures ∙ c.in-Some.is) in
+    step_act means.words c.in-Some.step.act means.act
 
 pub returns-in_default-clause-unbuilt : goal.returns-in_default-clause-unbuilt
 returns-in_default-clause-unbuilt c = λ place e.

@@ -1,6 +1,4 @@
 use Rattle.std.proofs.Common.{◌≡◌, arith, true, false}
-use Rattle.sv_packet.specs.declared.event.Event.TheVariants.{Nop}
-use Rattle.sv_workload.specs.declared.load.Act.TheVariants.{Event}
 use Rattle.sv_recorder.proofs.Between.{pending_few}
 use Rattle.sv_recorder.proofs.Placed as placed
 use Rattle.sv_recorder.proofs.recorder.Recorder.section.Goals as goal
@@ -30,4 +28,4 @@ pub invariant_of-self : goal.invariant_of-self
 invariant_of-self g c =
     let old = c.self.inside.book in
     let zero = placed.writer_zero g.U.UpWriter.ring g.U.UpWriter.size g.U.UpWriter.limit g.U.UpWriter.sent g.U.UpWriter.freed g.U.UpWriter.way old c.self.inside.place c.args.writer c.args.self.now c.self.view_is c.self.invariant c.requires.writer in
-    placed.after g.U.UpWriter.ring g.U.UpWriter.size g.U.UpWriter.limit g.U.UpWriter.sent g.U.UpWriter.freed g.U.UpWriter.way old c.take-answer.new.self c.args.writer c.self.inside.place c.steps-steps.result.now (record { advance = 0; act = Event Nop }) c.self.invariant zero c.steps-steps.ensures c.if-place-steps.false c.take-answer.ensures.kept c.take-answer.ensures.goes c.take-answer.ensures.moment c.take-answer.ensures.later
+    placed.after g.U.UpWriter.ring g.U.UpWriter.size g.U.UpWriter.limit g.U.UpWriter.sent g.U.UpWriter.freed g.U.UpWriter.way old c.take-answer.new.self c.args.writer c.self.inside.place c.steps-steps.result.now c.index-steps-place.result c.self.invariant zero c.steps-steps.ensures c.if-place-steps.false c.index-steps-place.is c.take-answer.ensures.kept c.take-answer.ensures.goes c.take-answer.ensures.moment c.take-answer.ensures.later

@@ -1,0 +1,30 @@
+use Rattle.std.proofs.Common.{◌∷◌, [], ◌++◌}
+use Rattle.sv_cli.proofs.Given.{given-none, given-more, given-same, drained-none, drained-damaged}
+use Rattle.sv_cli.proofs.draining.drain.Goals as goal
+
+pub loop-event-init : goal.loop-event-init
+loop-event-init c = ([], given-none c.args.decoder.now c.args.teller.now c.args.lines.now.items)
+
+pub loop-event-preserved : goal.loop-event-preserved
+loop-event-preserved c =
+    let events = c.loop-event.invariant.0 in (
+      events ++ c.in-Ok-Some.event ∷ [],
+      given-more c.args.decoder.now c.loop-event.decoder c.next.new.self c.args.teller.now c.loop-event.teller c.event.new.self c.args.lines.now.items c.loop-event.lines.items c.event.new.lines.items events c.in-Ok-Some.event c.loop-event.invariant.1
+          (rw c.in-Ok-Some.field-0-is at c.in-Ok-Some.ensures.stands) c.in_ok-event-in-Ok-Some.ensures.ok c.in_ok-event-in-Ok-Some.ensures.counted (rw c.in-Ok-Some.field-0-is at c.in-Ok-Some.ensures.fewer) c.in-Ok-Some.ensures.pushed,
+    )
+
+pub returns-in-Ok-None : goal.returns-in-Ok-None
+returns-in-Ok-None c = (
+  c.loop-event.invariant.0,
+  given-same c.args.decoder.now c.loop-event.decoder c.next.new.self c.args.teller.now c.loop-event.teller c.args.lines.now.items c.loop-event.lines.items c.loop-event.invariant.0 c.loop-event.invariant.1
+      (rw c.in-Ok-None.field-0-is at c.in-Ok-None.ensures.stands) c.in-Ok-None.ensures.held c.in-Ok-None.ensures.pushed,
+  drained-none c.args.decoder.now c.loop-event.decoder c.next.new.self c.loop-event.invariant.0 c.loop-event.invariant.1.stands (rw c.in-Ok-None.field-0-is at c.in-Ok-None.ensures.next) ((rw c.in-Ok-None.field-0-is at c.in-Ok-None.ensures.settled) tt),
+)
+
+pub returns-in-Err-Damaged : goal.returns-in-Err-Damaged
+returns-in-Err-Damaged c = (
+  c.loop-event.invariant.0,
+  given-same c.args.decoder.now c.loop-event.decoder c.next.new.self c.args.teller.now c.loop-event.teller c.args.lines.now.items c.loop-event.lines.items c.loop-event.invariant.0 c.loop-event.invariant.1
+      c.in-Err-Damaged.ensures.stands c.in-Err-Damaged.ensures.held c.in-Err-Damaged.ensures.pushed,
+  drained-damaged c.args.decoder.now c.loop-event.decoder c.next.new.self c.loop-event.invariant.0 c.in-Err-Damaged.field-0-0 c.in-Err-Damaged.field-0-1 c.loop-event.invariant.1.stands (rw c.in-Err-Damaged.field-0-is at c.in-Err-Damaged.ensures.next) ((rw c.in-Err-Damaged.field-0-is at c.in-Err-Damaged.ensures.settled) tt),
+)

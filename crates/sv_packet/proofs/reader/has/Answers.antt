@@ -1,0 +1,5 @@
+use Rattle.sv_prim.proofs.Below.{are_bytes}
+use Rattle.sv_packet.proofs.reader.has.Goals as goal
+
+pub returns-clause-are : goal.returns-clause-are
+returns-clause-are c = are_bytes c.args.bytes.now c.type_inv.bytes

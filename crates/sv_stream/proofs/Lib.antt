@@ -1,0 +1,15 @@
+pub mod Zeros
+pub mod Once
+pub mod Searching
+pub mod Existing
+pub mod Sizes
+pub mod Packets
+pub mod Few
+pub mod Examples
+pub mod Passing
+pub mod Telling
+pub mod Times
+pub mod Standing
+pub mod Finishing
+pub mod Giving
+pub mod Growing

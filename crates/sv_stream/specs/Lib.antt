@@ -1,0 +1,5 @@
+pub mod Input
+pub mod Reads
+pub mod Stage
+pub mod Held
+pub mod Decoding

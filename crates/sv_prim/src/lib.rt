@@ -4,12 +4,14 @@
 //! The contract above this crate: a number and a text have exactly one spelling each. [`get_u32`]
 //! and [`get_text`] say of any bytes whether they begin with one, end inside one, or break off at
 //! which byte. [`put_u32`] and [`put_text`] add that spelling to a packet, and [`number_spelled`] is
-//! the law that a number has no other.
+//! the law that a number has no other. Beside them stands the arithmetic of ticks ([`delta`])
+//! and of identifiers ([`shrink`], [`unshrink`], [`aligned`]).
 #![tactic(auto)]
 
 mod buf;
 mod bytes;
 mod got;
+mod identifiers;
 mod laws;
 mod memory;
 mod number;
@@ -20,6 +22,7 @@ mod ticks;
 pub use buf::Buf;
 pub use bytes::Bytes;
 pub use got::{Got, Reason};
+pub use identifiers::{aligned, shrink, unshrink};
 pub use laws::number_spelled;
 pub use memory::NoMemory;
 pub use number::{get_u32, put_u32};

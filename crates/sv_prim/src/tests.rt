@@ -49,6 +49,7 @@ fn numbers_added(rt: HostRuntime) {
         (0, [0x00].as_slice()),
         (127, [0x7f].as_slice()),
         (128, [0x80, 0x01].as_slice()),
+        (257, [0x81, 0x02].as_slice()),
         (300, [0xac, 0x02].as_slice()),
         (16384, [0x80, 0x80, 0x01].as_slice()),
         (1000000, [0xc0, 0x84, 0x3d].as_slice()),
@@ -145,4 +146,21 @@ fn texts_at_the_front(rt: HostRuntime) -> Result<(), Fail> {
         }
     );
     Ok(())
+}
+
+#[test]
+fn identifiers_shrunk(rt: HostRuntime) {
+    for (id, base, shift, want) in [
+        (536871940, 536870912, 2, 257),
+        (536870908, 536870912, 2, 1073741823),
+        (536870908, 536870912, 0, 4294967292),
+        (2684354560, 536870912, 31, 1),
+        (4294967295, 0, 0, 4294967295),
+    ] {
+        assert_eq!(rt; shrink(id, base, shift), want, "of {id}");
+        assert_eq!(rt; unshrink(want, base, shift), id, "of {want}");
+        assert!(rt; aligned(id, base, shift), "of {id}");
+    }
+    assert_eq!(rt; shrink(536871941, 536870912, 2), 257);
+    assert!(rt; !aligned(536871941, 536870912, 2));
 }

@@ -11,20 +11,23 @@ use Rattle.sv_packet.specs.Parts.{IsIdentifier, AreNumbers, IsTextIf, IsOfSize}
 abbrev pub Never : List ℕ → Reason → Type 0
 Never front reason = ⊥
 
--- in a payload without a length field: in its numbers, in the length of its text, in the delta behind them
+-- below identifier 24 and behind the numbers: in the length of the text, if there is one, or in the delta
 abbrev pub BareEndReason : ℕ → List ℕ → Reason → Type 0
 BareEndReason id = PairReason (IsTextIf (ends_in_text id)) (Always BadText) (λ text. Always BadNumber)
 
+-- below identifier 24: in the numbers, or behind them
 abbrev pub BareReason : ℕ → List ℕ → Reason → Type 0
 BareReason id = PairReason (AreNumbers (number_count id)) (Always BadNumber) (λ numbers. BareEndReason id)
 
--- from identifier 24 on: in the length, never in the payload, in the delta
+-- from identifier 24 on and behind the length: never in the payload, and in the delta
 abbrev pub CountedEndReason : ℕ → List ℕ → Reason → Type 0
 CountedEndReason size = PairReason (IsOfSize size) Never (λ payload. Always BadNumber)
 
+-- from identifier 24 on: in the length, or behind it
 abbrev pub CountedReason : List ℕ → Reason → Type 0
 CountedReason = PairReason IsShortNumber (Always BadLength) CountedEndReason
 
+-- behind an identifier
 abbrev pub BodyReason : ℕ → List ℕ → Reason → Type 0
 BodyReason id front reason = ((id < 24) × BareReason id front reason) ⊎ ((24 ≤ id) × CountedReason front reason)
 

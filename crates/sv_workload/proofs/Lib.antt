@@ -1,4 +1,5 @@
 pub mod Digits
+pub mod FirstFault
 pub mod FirstLine
 pub mod Needs
 pub mod Scripts
@@ -6,3 +7,6 @@ pub mod Steps
 pub mod Acts
 pub mod Once
 mod Examples
+mod Faults
+mod LineFaults
+mod Loads

@@ -1,6 +1,6 @@
 -- The form of workloads that is read: the line `writer`, and then the steps of the one writer, one a line.
-use Rattle.std.specs.Prelude.{◌≡◌, ℕ, ◌+◌, ◌<◌, ◌≤◌, Bool, true, false, ◌==◌, not, List, [], ◌∷◌, ◌++◌, length, take, sum_by, codes, IsTrue, ◌⊎◌}
-use Rattle.std.specs.List.{slice_split, list_all, AllZip}
+use Rattle.std.specs.Prelude.{◌≡◌, ℕ, ◌+◌, ◌<◌, ◌≤◌, false, List, [], ◌∷◌, ◌++◌, length, take, sum_by, codes, IsTrue, ◌⊎◌}
+use Rattle.std.specs.List.{list_all, AllZip}
 use Rattle.std.specs.Char.{is_ascii_digit}
 use Rattle.std.specs.Str.Parse.{digits_value}
 use Rattle.sv_packet.specs.declared.event.Event.TheVariants.{Nop, IsrEnter, IsrExit, TaskStop, MarkStart, MarkStop, Idle, ToScheduler}
@@ -8,28 +8,9 @@ use Rattle.sv_workload.specs.declared.load.Act.{Act}
 use Rattle.sv_workload.specs.declared.load.Act.TheVariants.{Event, Start, Stop}
 use Rattle.sv_workload.specs.declared.load.Step.{Step}
 use Rattle.sv_workload.specs.Load.{Load}
+pub use Rattle.sv_workload.specs.Lines.{without_empty_end, lines_of, bytes_of}
+pub use Rattle.sv_workload.specs.Words.{begins_well}
 use Rattle.sv_workload.specs.Need.{one_if, is_start_act}
-
--- behind a last line feed stands no further line
-abbrev pub without_empty_end : List (List ℕ) → List (List ℕ)
-without_empty_end [] = []
-without_empty_end ([] ∷ []) = []
-without_empty_end ((b ∷ bytes) ∷ []) = (b ∷ bytes) ∷ []
-without_empty_end (line ∷ next ∷ lines) = line ∷ without_empty_end (next ∷ lines)
-
--- the lines of a text: each ends at a line feed, and the last one there or at the end
-abbrev pub lines_of : List ℕ → List (List ℕ)
-lines_of text = without_empty_end (slice_split (λ b. b == 10) text)
-
--- the bytes of these lines, each with its line feed
-abbrev pub bytes_of : List (List ℕ) → ℕ
-bytes_of lines = sum_by (λ line. length line + 1) lines
-
--- no digit stands behind a 0 at the front
-abbrev pub begins_well : List ℕ → Bool
-begins_well [] = false
-begins_well (b ∷ []) = true
-begins_well (b ∷ c ∷ bytes) = not (b == 48)
 
 -- the word is the number in decimal, without a leading zero
 pub record IsNumeral (value : ℕ) (word : List ℕ) : Type 0 where

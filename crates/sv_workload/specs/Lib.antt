@@ -1,4 +1,13 @@
+pub mod Checks
 pub mod Form
+pub mod Forms
+pub mod Grammar
+pub mod Keywords
+pub mod Line
+pub mod Lines
 pub mod Load
+pub mod Meaning
 pub mod Need
 pub mod Reading
+pub mod Reason
+pub mod Words

@@ -1,23 +1,20 @@
 -- The parser's own words: what it reads in a line. proofs/Steps.antt says that this is what the line means.
 use Rattle.std.specs.Prelude.{◌≡◌, ℕ, ◌+◌, ◌*◌, ◌<◌, ◌≤◌, sum_by, All, nat_le, nat_lt, Bool, ◌==◌, ◌&&◌, List, ◌∷◌, length, codes, bytes_eq, Option, Some, None, if◌then◌else◌}
-use Rattle.std.specs.List.{list_all, before_first, after_first, position_or_len}
-use Rattle.std.specs.Char.{is_ascii_digit}
+use Rattle.std.specs.List.{before_first, after_first, position_or_len}
 use Rattle.std.specs.Str.Parse.{digits_value}
 use Rattle.sv_packet.specs.declared.event.Event.TheVariants.{Nop, IsrEnter, IsrExit, TaskStop, MarkStart, MarkStop, Idle, ToScheduler}
 use Rattle.sv_workload.specs.declared.load.Act.{Act}
 use Rattle.sv_workload.specs.declared.load.Act.TheVariants.{Event, Start, Stop}
 use Rattle.sv_workload.specs.declared.load.Step.{Step}
 use Rattle.sv_workload.specs.Need.{one_if, is_start_act, act_bytes, IsStepAct}
-use Rattle.sv_workload.specs.Form.{begins_well, lines_of, IsShort}
+pub use Rattle.sv_workload.specs.Words.{is_number}
+use Rattle.sv_workload.specs.Form.{lines_of, IsShort}
 
 abbrev pub is_space : ℕ → Bool
 is_space b = b == 32
 
 abbrev pub has_space : List ℕ → Bool
 has_space line = nat_lt (position_or_len is_space line) (length line)
-
-abbrev pub is_number : List ℕ → Bool
-is_number word = begins_well word && list_all is_ascii_digit word
 
 -- the number that a word is, up to the most
 abbrev pub number_of : ℕ → List ℕ → Option ℕ

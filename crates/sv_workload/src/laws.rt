@@ -1,4 +1,8 @@
+ghost use Rattle.std.specs.Prelude.{◌≡◌, ℕ, ◌+◌, ◌<◌, List, [], length, take, slice_index_or, Some, None};
 ghost use Rattle.sv_workload.specs.Form.{HasOneLoad, HasOnePlace, AreApart, IsDecided};
+ghost use Rattle.sv_workload.specs.Lines.{lines_of};
+ghost use Rattle.sv_workload.specs.Grammar.{fault_at, first_fault, IsFirstFault};
+ghost use Rattle.sv_workload.specs.declared.fault.LineFault.{LineFault};
 
 /// The law of the form: a text says one load, or has one first line outside, and never both.
 pub fn formed_once()
@@ -6,4 +10,13 @@ pub fn formed_once()
     ensures place { HasOnePlace }
     ensures apart { AreApart }
     ensures total { IsDecided }
+{}
+
+/// The law of the language: a text's first fault is that of the one line with a fault behind lines without one,
+/// and a text without such a line has none.
+pub fn the_first_fault()
+    ensures some { (text : List ℕ) (place : ℕ) (fault : LineFault) → IsFirstFault text place fault
+        → first_fault text ≡ Some (place + 1, fault) }
+    ensures none { (text : List ℕ) → ((place : ℕ) → place < length (lines_of text)
+        → fault_at (take place (lines_of text)) (slice_index_or (lines_of text) place []) ≡ None) → first_fault text ≡ None }
 {}

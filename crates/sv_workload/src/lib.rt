@@ -2,16 +2,18 @@
 #![tactic(auto)]
 
 mod fault;
+mod keyword;
 mod laws;
 mod lines;
 mod load;
 mod number;
 mod parsing;
+mod range;
 mod script;
 mod stepping;
 
-pub use fault::WorkFault;
-pub use laws::formed_once;
+pub use fault::{LineFault, WorkFault};
+pub use laws::{formed_once, the_first_fault};
 pub use load::{Act, Action, Command, ModuleRow, Need, Step, Task, Workload};
 pub use parsing::parse;
 

@@ -1,0 +1,98 @@
+-- What stands behind each keyword: numbers, each with its range, and at the end maybe a text.
+use Rattle.std.specs.Prelude.{ℕ, ◌-◌, ◌^◌, nat_le, Bool, true, false, ◌&&◌, List, [], ◌∷◌, replicate, Option, Some, None}
+use Rattle.std.specs.Option.{option_map_or}
+use Rattle.sv_workload.specs.declared.range.Range.{Range}
+use Rattle.sv_workload.specs.declared.keyword.SetupWord.TheVariants.{Ring, Clock, Cpu, Base, Shift, Time, Desc, Task, Module, Command}
+use Rattle.sv_workload.specs.declared.keyword.ActWord.TheVariants.{Start, Stop, Nop, Isr, IsrExit, Run, Halt, Ready, Unready, Create, Terminate, Mark, MarkEnd, Idle, Sched, Timer, TimerExit, Name, Print, Call, Return}
+use Rattle.sv_workload.specs.declared.keyword.TurnWord.TheVariants.{Step, Read, Send}
+use Rattle.sv_workload.specs.declared.keyword.Keyword.{Keyword}
+use Rattle.sv_workload.specs.declared.keyword.Keyword.TheVariants.{Setup, Writer, Act, Schedule, Turn, Unknown}
+
+-- both ends belong to the range
+abbrev pub between : ℕ → ℕ → Range
+between least most = record { least = least; most = Some most }
+
+-- what 32 bits hold
+abbrev pub word32 : Range
+word32 = between 0 (2 ^ 32 - 1)
+
+-- a range without an end
+abbrev pub any : Range
+any = record { least = 0; most = None }
+
+abbrev pub is_in : Range → ℕ → Bool
+is_in range n = nat_le range.least n && option_map_or (λ most. nat_le n most) range.most true
+
+-- the words that a keyword wants behind it
+pub record Form : Type 0 where
+  -- the numbers that it can't be without, and then those that it can
+  pub numbers : List Range
+  pub more : List Range
+  -- how many bytes its text has at most, if it has one
+  pub text : Option ℕ
+  -- whether its first number is an identifier of the target
+  pub identifier : Bool
+
+-- nothing at all
+abbrev pub bare : Form
+bare = record { numbers = []; more = []; text = None; identifier = false }
+
+-- these numbers
+abbrev pub numbers : List Range → Form
+numbers ranges = record bare { numbers = ranges }
+
+-- a text alone
+abbrev pub text : ℕ → Form
+text most = record bare { text = Some most }
+
+-- an identifier, and these numbers
+abbrev pub identifier : List Range → Form
+identifier ranges = record bare { numbers = word32 ∷ ranges; identifier = true }
+
+-- some of these numbers too, from the first on
+abbrev pub with_more : List Range → Form → Form
+with_more ranges form = record form { more = ranges }
+
+-- a text behind the numbers
+abbrev pub with_text : ℕ → Form → Form
+with_text most form = record form { text = Some most }
+
+-- the language's table: what each keyword wants behind it
+abbrev pub form_of : Keyword → Form
+form_of (Setup Ring) = numbers (between 64 65536 ∷ [])
+form_of (Setup Clock) = numbers (between 1 4294967295 ∷ [])
+form_of (Setup Cpu) = numbers (between 1 4294967295 ∷ [])
+form_of (Setup Base) = numbers (word32 ∷ [])
+form_of (Setup Shift) = numbers (between 0 31 ∷ [])
+form_of (Setup Time) = bare
+form_of (Setup Desc) = text 128
+form_of (Setup Task) = with_text 32 (identifier (replicate 4 word32))
+form_of (Setup Module) = with_text 128 (numbers (between 0 16384 ∷ []))
+form_of (Setup Command) = with_more (between 0 255 ∷ []) (numbers (between 0 255 ∷ []))
+form_of Writer = bare
+form_of (Act Start) = bare
+form_of (Act Stop) = bare
+form_of (Act Nop) = bare
+form_of (Act Isr) = numbers (word32 ∷ [])
+form_of (Act IsrExit) = bare
+form_of (Act Run) = identifier []
+form_of (Act Halt) = bare
+form_of (Act Ready) = identifier []
+form_of (Act Unready) = identifier (word32 ∷ [])
+form_of (Act Create) = identifier []
+form_of (Act Terminate) = identifier []
+form_of (Act Mark) = numbers (word32 ∷ [])
+form_of (Act MarkEnd) = numbers (word32 ∷ [])
+form_of (Act Idle) = bare
+form_of (Act Sched) = bare
+form_of (Act Timer) = identifier []
+form_of (Act TimerExit) = bare
+form_of (Act Name) = with_text 128 (identifier [])
+form_of (Act Print) = text 128
+form_of (Act Call) = with_more (replicate 8 word32) (numbers (between 32 16383 ∷ []))
+form_of (Act Return) = with_more (word32 ∷ []) (numbers (word32 ∷ []))
+form_of Schedule = bare
+form_of (Turn Step) = with_more (between 1 1048576 ∷ []) (numbers (any ∷ []))
+form_of (Turn Read) = numbers (between 1 65536 ∷ [])
+form_of (Turn Send) = bare
+form_of Unknown = bare

@@ -1,0 +1,39 @@
+-- The language of workloads: what a text says, or its first line that says nothing.
+use Rattle.std.specs.Prelude.{◌≡◌, ℕ, ◌+◌, ◌<◌, take, slice_index_or, not, List, [], ◌∷◌, ◌++◌, length, map, filter, Option, Some, None, option_map, if◌then◌else◌}
+use Rattle.std.specs.Option.{option_or}
+use Rattle.sv_workload.specs.declared.fault.LineFault.{LineFault}
+use Rattle.sv_workload.specs.Lines.{lines_of, is_remark}
+use Rattle.sv_workload.specs.Line.{Line, line_of}
+use Rattle.sv_workload.specs.Load.{Load}
+use Rattle.sv_workload.specs.Meaning.{load_of}
+use Rattle.sv_workload.specs.Checks.{fault_of}
+
+-- all lines but the remarks
+abbrev pub said : List (List ℕ) → List Line
+said lines = map line_of (filter (λ line. not (is_remark line)) lines)
+
+-- what is wrong with a line behind these lines, if anything is
+abbrev pub fault_at : List (List ℕ) → List ℕ → Option LineFault
+fault_at before line = if is_remark line then None else fault_of (said before) (line_of line)
+
+-- the first line with a fault among those that follow the lines before, by its number among all of them
+abbrev pub first_fault_behind : List (List ℕ) → List (List ℕ) → Option (ℕ × LineFault)
+first_fault_behind before [] = None
+first_fault_behind before (line ∷ lines) = option_or
+    (option_map (λ fault. (length before + 1, fault)) (fault_at before line))
+    (first_fault_behind (before ++ line ∷ []) lines)
+
+-- the first line with a fault, counted from 1, and the fault
+abbrev pub first_fault : List ℕ → Option (ℕ × LineFault)
+first_fault text = first_fault_behind [] (lines_of text)
+
+-- the text is of the language, and this is what it says
+pub record IsWorkload (text : List ℕ) (load : Load) : Type 0 where
+  pub good : first_fault text ≡ None
+  pub meaning : load ≡ load_of (said (lines_of text))
+
+-- the line at this place has the fault, and no line before it has one
+pub record IsFirstFault (text : List ℕ) (place : ℕ) (fault : LineFault) : Type 0 where
+  pub within : place < length (lines_of text)
+  pub here : fault_at (take place (lines_of text)) (slice_index_or (lines_of text) place []) ≡ Some fault
+  pub earlier : (k : ℕ) → k < place → fault_at (take k (lines_of text)) (slice_index_or (lines_of text) k []) ≡ None

@@ -1,0 +1,63 @@
+-- Keywords: how each is spelled, and which of them can begin a line of which kind.
+use Rattle.std.specs.Prelude.{ℕ, List, [], ◌∷◌, ◌++◌, codes, map, Bool, find, unwrap_or, bytes_eq}
+use Rattle.sv_workload.specs.declared.keyword.SetupWord.TheVariants.{Ring, Clock, Cpu, Base, Shift, Time, Desc, Task, Module, Command}
+use Rattle.sv_workload.specs.declared.keyword.ActWord.TheVariants.{Start, Stop, Nop, Isr, IsrExit, Run, Halt, Ready, Unready, Create, Terminate, Mark, MarkEnd, Idle, Sched, Timer, TimerExit, Name, Print, Call, Return}
+use Rattle.sv_workload.specs.declared.keyword.TurnWord.TheVariants.{Step, Read, Send}
+use Rattle.sv_workload.specs.declared.keyword.Keyword.{Keyword}
+use Rattle.sv_workload.specs.declared.keyword.Keyword.TheVariants.{Setup, Writer, Act, Schedule, Turn, Unknown}
+
+-- the keywords behind the ticks of a step
+abbrev pub step_keywords : List Keyword
+step_keywords = map Act (Start ∷ Stop ∷ Nop ∷ Isr ∷ IsrExit ∷ Run ∷ Halt ∷ Ready ∷ Unready ∷ Create ∷ Terminate ∷ Mark ∷ MarkEnd ∷ Idle ∷ Sched ∷ Timer ∷ TimerExit ∷ Name ∷ Print ∷ Call ∷ Return ∷ [])
+
+-- the keywords of every other line. `time`, `desc`, `module`, `command` and `send` are not among them yet
+abbrev pub other_keywords : List Keyword
+other_keywords = map Setup (Ring ∷ Clock ∷ Cpu ∷ Base ∷ Shift ∷ Task ∷ []) ++ (Writer ∷ Schedule ∷ map Turn (Step ∷ Read ∷ []))
+
+-- the bytes of a keyword; none for what is no keyword
+abbrev pub spelling : Keyword → List ℕ
+spelling (Setup Ring) = codes "ring"
+spelling (Setup Clock) = codes "clock"
+spelling (Setup Cpu) = codes "cpu"
+spelling (Setup Base) = codes "base"
+spelling (Setup Shift) = codes "shift"
+spelling (Setup Time) = codes "time"
+spelling (Setup Desc) = codes "desc"
+spelling (Setup Task) = codes "task"
+spelling (Setup Module) = codes "module"
+spelling (Setup Command) = codes "command"
+spelling Writer = codes "writer"
+spelling (Act Start) = codes "start"
+spelling (Act Stop) = codes "stop"
+spelling (Act Nop) = codes "nop"
+spelling (Act Isr) = codes "isr"
+spelling (Act IsrExit) = codes "isr-exit"
+spelling (Act Run) = codes "run"
+spelling (Act Halt) = codes "halt"
+spelling (Act Ready) = codes "ready"
+spelling (Act Unready) = codes "unready"
+spelling (Act Create) = codes "create"
+spelling (Act Terminate) = codes "terminate"
+spelling (Act Mark) = codes "mark"
+spelling (Act MarkEnd) = codes "mark-end"
+spelling (Act Idle) = codes "idle"
+spelling (Act Sched) = codes "sched"
+spelling (Act Timer) = codes "timer"
+spelling (Act TimerExit) = codes "timer-exit"
+spelling (Act Name) = codes "name"
+spelling (Act Print) = codes "print"
+spelling (Act Call) = codes "call"
+spelling (Act Return) = codes "return"
+spelling Schedule = codes "schedule"
+spelling (Turn Step) = codes "step"
+spelling (Turn Read) = codes "read"
+spelling (Turn Send) = codes "send"
+spelling Unknown = []
+
+-- the two are one keyword: no two are spelled alike
+abbrev pub is_same : Keyword → Keyword → Bool
+is_same a b = bytes_eq (spelling a) (spelling b)
+
+-- which of these keywords a word spells
+abbrev pub keyword_among : List Keyword → List ℕ → Keyword
+keyword_among keywords word = unwrap_or (find (λ k. bytes_eq (spelling k) word) keywords) Unknown

@@ -1,0 +1,144 @@
+-- What lines say together: settings, lists, the scripts of the writers and the schedule.
+use Rattle.std.specs.Prelude.{ℕ, nat_lt, Bool, true, false, List, [], ◌∷◌, map, filter, drop, flat_map, find, count_by, filter_map, Option, Some, None, unwrap_or, option_map, option_and_then, slice_get, slice_index, slice_index_or}
+use Rattle.std.specs.List.{slice_split}
+use Rattle.sv_prim.specs.Number.{number_spelling}
+use Rattle.sv_prim.specs.Shrink.{shrunk}
+use Rattle.sv_packet.specs.declared.event.Event.TheVariants as event
+use Rattle.sv_workload.specs.declared.load.ModuleRow.{ModuleRow}
+use Rattle.sv_workload.specs.declared.load.Step.{Step}
+use Rattle.sv_workload.specs.declared.load.Task.{Task}
+use Rattle.sv_workload.specs.declared.load.Command.{Command}
+use Rattle.sv_workload.specs.declared.load.Action.{Action}
+use Rattle.sv_workload.specs.declared.load.Action.TheVariants as action
+use Rattle.sv_workload.specs.declared.load.Act.{Act}
+use Rattle.sv_workload.specs.declared.load.Act.TheVariants as act
+use Rattle.sv_workload.specs.declared.keyword.SetupWord.{SetupWord}
+use Rattle.sv_workload.specs.declared.keyword.SetupWord.TheVariants as setup
+use Rattle.sv_workload.specs.declared.keyword.ActWord.{ActWord}
+use Rattle.sv_workload.specs.declared.keyword.ActWord.TheVariants.{Start, Stop, Nop, Isr, IsrExit, Run, Halt, Ready, Unready, Create, Terminate, Mark, MarkEnd, Idle, Sched, Timer, TimerExit, Name, Print, Call, Return}
+use Rattle.sv_workload.specs.declared.keyword.TurnWord.TheVariants as turn
+use Rattle.sv_workload.specs.declared.keyword.Keyword.{Keyword}
+use Rattle.sv_workload.specs.declared.keyword.Keyword.TheVariants as keyword
+use Rattle.sv_workload.specs.Keywords.{is_same}
+use Rattle.sv_workload.specs.Forms.{form_of}
+use Rattle.sv_workload.specs.Words.{number_of}
+use Rattle.sv_workload.specs.Line.{Line, numbers_of, text_of}
+use Rattle.sv_workload.specs.Load.{Load}
+
+-- this keyword stands in the line
+abbrev pub says : Keyword → Line → Bool
+says keyword line = is_same keyword line.keyword
+
+-- the lines of one keyword
+abbrev pub those : Keyword → List Line → List Line
+those keyword lines = filter (says keyword) lines
+
+-- how many lines of one keyword there are
+abbrev pub count : Keyword → List Line → ℕ
+count keyword lines = count_by (says keyword) lines
+
+abbrev pub is_there : Keyword → List Line → Bool
+is_there keyword lines = nat_lt 0 (count keyword lines)
+
+-- the number at a place behind the keyword, 0 if there is none
+abbrev pub number : Line → ℕ → ℕ
+number line place = slice_index (numbers_of line) place
+
+-- the number that the first line of the word gives, if there is such a line
+abbrev pub told : SetupWord → List Line → Option ℕ
+told word lines = option_map (λ line. number line 0) (find (says (keyword.Setup word)) lines)
+
+-- the value of a setting, which has one too where no line tells it
+abbrev pub setting : SetupWord → ℕ → List Line → ℕ
+setting word default lines = unwrap_or (told word lines) default
+
+abbrev pub base_of : List Line → ℕ
+base_of lines = setting setup.Base 536870912 lines
+
+abbrev pub shift_of : List Line → ℕ
+shift_of lines = setting setup.Shift 2 lines
+
+-- a task goes by its identifier as the line has it
+abbrev pub task_of : Line → Task
+task_of line = record { id = number line 0; priority = number line 1; stack_base = number line 2; stack_size = number line 3; extra = number line 4; name = text_of line }
+
+abbrev pub tasks_of : List Line → List Task
+tasks_of lines = map task_of (those (keyword.Setup setup.Task) lines)
+
+abbrev pub modules_of : List Line → List ModuleRow
+modules_of lines = map (λ line. record { events = number line 0; name = text_of line }) (those (keyword.Setup setup.Module) lines)
+
+abbrev pub commands_of : List Line → List Command
+commands_of lines = map (λ line. record { byte = number line 0; param = number line 1 }) (those (keyword.Setup setup.Command) lines)
+
+-- what a step does with these numbers, the identifier among them shrunk by now, and this text
+abbrev pub act_of : ActWord → List ℕ → List ℕ → Act
+act_of Start ns text = act.Start
+act_of Stop ns text = act.Stop
+act_of Nop ns text = act.Event event.Nop
+act_of Isr ns text = act.Event (event.IsrEnter (slice_index ns 0))
+act_of IsrExit ns text = act.Event event.IsrExit
+act_of Run ns text = act.Event (event.TaskStart (slice_index ns 0))
+act_of Halt ns text = act.Event event.TaskStop
+act_of Ready ns text = act.Event (event.TaskReady (slice_index ns 0))
+act_of Unready ns text = act.Event (event.TaskUnready (slice_index ns 0) (slice_index ns 1))
+act_of Create ns text = act.Event (event.TaskCreate (slice_index ns 0))
+act_of Terminate ns text = act.Event (event.TaskTerminate (slice_index ns 0))
+act_of Mark ns text = act.Event (event.MarkStart (slice_index ns 0))
+act_of MarkEnd ns text = act.Event (event.MarkStop (slice_index ns 0))
+act_of Idle ns text = act.Event event.Idle
+act_of Sched ns text = act.Event event.ToScheduler
+act_of Timer ns text = act.Event (event.TimerEnter (slice_index ns 0))
+act_of TimerExit ns text = act.Event event.TimerExit
+act_of Name ns text = act.Event (event.NameResource (slice_index ns 0) text)
+act_of Print ns text = act.Event (event.Print text 0 [])
+act_of Call ns text = act.Event (event.Opaque (slice_index ns 0) (flat_map number_spelling (drop 1 ns)))
+act_of Return ns text = act.Event (event.EndCall (slice_index ns 0) (slice_get ns 1))
+
+-- the numbers as the target sends them: an identifier goes first, and is shrunk
+abbrev pub with_shrunk : Bool → ℕ → ℕ → List ℕ → List ℕ
+with_shrunk true base shift (id ∷ ns) = shrunk id base shift ∷ ns
+with_shrunk true base shift [] = []
+with_shrunk false base shift ns = ns
+
+-- the step of a line with this keyword; other lines have none
+abbrev pub step_by : Keyword → ℕ → ℕ → Line → Option Step
+step_by (keyword.Act word) base shift line = Some (record {
+  advance = unwrap_or (option_and_then number_of line.advance) 0;
+  act = act_of word (with_shrunk (form_of (keyword.Act word)).identifier base shift (numbers_of line)) (text_of line);
+})
+step_by _ base shift line = None
+
+abbrev pub step_of : ℕ → ℕ → Line → Option Step
+step_of base shift line = step_by line.keyword base shift line
+
+-- each line `writer` begins a script, and the steps up to the next one are its own
+abbrev pub scripts_of : List Line → List (List Step)
+scripts_of lines = map (filter_map (step_of (base_of lines) (shift_of lines))) (drop 1 (slice_split (says keyword.Writer) lines))
+
+-- the turn that a line of the schedule gives away; other lines give none
+abbrev pub action_by : Keyword → List ℕ → Option Action
+action_by (keyword.Turn turn.Step) ns = Some (action.Step (slice_index ns 0) (slice_index_or ns 1 1))
+action_by (keyword.Turn turn.Read) ns = Some (action.Read (slice_index ns 0))
+action_by (keyword.Turn turn.Send) ns = Some action.Send
+action_by _ ns = None
+
+abbrev pub action_of : Line → Option Action
+action_of line = action_by line.keyword (numbers_of line)
+
+-- the workload of these lines
+abbrev pub load_of : List Line → Load
+load_of lines = record {
+  ring = setting setup.Ring 1024 lines;
+  clock = setting setup.Clock 1000000 lines;
+  cpu = setting setup.Cpu 1000000 lines;
+  base = base_of lines;
+  shift = shift_of lines;
+  timed = is_there (keyword.Setup setup.Time) lines;
+  lines = map text_of (those (keyword.Setup setup.Desc) lines);
+  tasks = tasks_of lines;
+  modules = modules_of lines;
+  commands = commands_of lines;
+  scripts = scripts_of lines;
+  schedule = filter_map action_of lines;
+}

@@ -1,7 +1,10 @@
 //! Workloads: what the writers of a run do, and in which order.
 #![tactic(auto)]
 
+mod capped;
+mod cutting;
 mod fault;
+mod form;
 mod keyword;
 mod laws;
 mod lines;
@@ -11,6 +14,7 @@ mod parsing;
 mod range;
 mod script;
 mod stepping;
+mod words;
 
 pub use fault::{LineFault, WorkFault};
 pub use laws::{formed_once, the_first_fault};

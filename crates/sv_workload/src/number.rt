@@ -23,14 +23,14 @@ fn are_digits(word: &[u8]) -> bool
 }
 
 /// Whether a word is a number.
-fn is_number(word: &[u8]) -> bool
+pub fn is_number(word: &[u8]) -> bool
     ensures { result ≡ is_number word.now }
 {
     begins_well(word) && are_digits(word)
 }
 
 /// The digits' value, or the greatest `u64` where that is less.
-fn digits_value(digits: &[u8]) -> u64
+pub fn digits_value(digits: &[u8]) -> u64
     requires { IsTrue (list_all is_ascii_digit digits.now) }
     ensures { result ≡ min (digits_value 10 digits.now) (2 ^ 64 - 1) }
 {

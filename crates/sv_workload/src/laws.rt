@@ -12,11 +12,13 @@ pub fn formed_once()
     ensures total { IsDecided }
 {}
 
-/// The law of the language: a text's first fault is that of the one line with a fault behind lines without one,
-/// and a text without such a line has none.
+/// The law of the language: a text's first fault is that of the one line with a fault behind lines
+/// without one, and a text without such a line has none.
 pub fn the_first_fault()
-    ensures some { (text : List ℕ) (place : ℕ) (fault : LineFault) → IsFirstFault text place fault
-        → first_fault text ≡ Some (place + 1, fault) }
-    ensures none { (text : List ℕ) → ((place : ℕ) → place < length (lines_of text)
-        → fault_at (take place (lines_of text)) (slice_index_or (lines_of text) place []) ≡ None) → first_fault text ≡ None }
+    ensures some { (text : List ℕ) (place : ℕ) (fault : LineFault) →
+        IsFirstFault text place fault → first_fault text ≡ Some (place + 1, fault) }
+    ensures none { (text : List ℕ) →
+        ((place : ℕ) → place < length (lines_of text) →
+        fault_at (take place (lines_of text)) (slice_index_or (lines_of text) place []) ≡ None) →
+        first_fault text ≡ None }
 {}

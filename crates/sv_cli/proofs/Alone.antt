@@ -14,7 +14,7 @@ use Rattle.sv_cli.specs.Simulated.{IsSimulated}
 use Rattle.sv_cli.proofs.Made.{at, start, turn}
 
 abbrev pub load : Load
-load = record { ring = 1024; clock = 1000000; cpu = 1000000; base = 536870912; shift = 2; timed = false; lines = []; tasks = []; modules = []; commands = []; scripts = (start 0 ∷ []) ∷ []; schedule = [] }
+load = record { ring = 1024; clock = 1000000; cpu = 1000000; base = 536870912; shift = 2; timed = false; lines = []; tasks = []; modules = []; commands = []; scripts = (start 0 ∷ []) ∷ []; scheduled = false; schedule = [] }
 
 abbrev pub items : List Item
 items =

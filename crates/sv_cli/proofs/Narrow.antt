@@ -15,7 +15,7 @@ abbrev pub script : List Step
 script = start 0 ∷ mark 1 5 ∷ []
 
 abbrev pub load : Load
-load = record { ring = 20; clock = 1000000; cpu = 1000000; base = 536870912; shift = 2; timed = false; lines = []; tasks = []; modules = []; commands = []; scripts = script ∷ []; schedule = [] }
+load = record { ring = 20; clock = 1000000; cpu = 1000000; base = 536870912; shift = 2; timed = false; lines = []; tasks = []; modules = []; commands = []; scripts = script ∷ []; scheduled = false; schedule = [] }
 
 abbrev pub items : List Item
 items =

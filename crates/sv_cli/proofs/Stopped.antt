@@ -18,7 +18,7 @@ abbrev pub script : List Step
 script = mark 5 9 ∷ start 0 ∷ mark 2 9 ∷ stop 3 ∷ mark 1 9 ∷ []
 
 abbrev pub load : Load
-load = record { ring = 1024; clock = 1000000; cpu = 1000000; base = 536870912; shift = 2; timed = false; lines = []; tasks = []; modules = []; commands = []; scripts = script ∷ []; schedule = [] }
+load = record { ring = 1024; clock = 1000000; cpu = 1000000; base = 536870912; shift = 2; timed = false; lines = []; tasks = []; modules = []; commands = []; scripts = script ∷ []; scheduled = false; schedule = [] }
 
 abbrev pub items : List Item
 items =

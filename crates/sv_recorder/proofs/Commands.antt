@@ -13,7 +13,7 @@ use Rattle.sv_recorder.specs.Stream.{stream_of, IsCalm}
 use Rattle.sv_recorder.proofs.Short.{at, start, mark}
 
 abbrev pub load : Load
-load = record { ring = 1024; clock = 1000000; cpu = 1000000; base = 536870912; shift = 2; timed = false; lines = []; tasks = []; modules = record { events = 3; name = 77 ∷ 61 ∷ 78 ∷ 101 ∷ 116 ∷ [] } ∷ []; commands = record { byte = 128; param = 0 } ∷ record { byte = 9; param = 0 } ∷ []; scripts = (start 0 ∷ mark 1 5 ∷ mark 1 6 ∷ []) ∷ []; schedule = [] }
+load = record { ring = 1024; clock = 1000000; cpu = 1000000; base = 536870912; shift = 2; timed = false; lines = []; tasks = []; modules = record { events = 3; name = 77 ∷ 61 ∷ 78 ∷ 101 ∷ 116 ∷ [] } ∷ []; commands = record { byte = 128; param = 0 } ∷ record { byte = 9; param = 0 } ∷ []; scripts = (start 0 ∷ mark 1 5 ∷ mark 1 6 ∷ []) ∷ []; scheduled = false; schedule = [] }
 
 abbrev pub items : List Item
 items =

@@ -54,7 +54,7 @@ needs : (need_items refusals.load ≡ 52) × (need_bytes refusals.load ≡ 901)
 needs = (refl, refl)
 
 abbrev pub far : Load
-far = record { ring = 1024; clock = 1000000; cpu = 1000000; base = 536870912; shift = 2; timed = false; lines = []; tasks = []; modules = []; commands = []; scripts = (start 0 ∷ mark 4294967295 1 ∷ mark 4294967296 1 ∷ []) ∷ []; schedule = [] }
+far = record { ring = 1024; clock = 1000000; cpu = 1000000; base = 536870912; shift = 2; timed = false; lines = []; tasks = []; modules = []; commands = []; scripts = (start 0 ∷ mark 4294967295 1 ∷ mark 4294967296 1 ∷ []) ∷ []; scheduled = false; schedule = [] }
 
 abbrev pub far_items : List Item
 far_items =

@@ -1,6 +1,6 @@
 -- Whole workloads, with what they say; and texts and loads that don't go together.
 use Rattle.std.specs.Prelude.{codes, slice_index_or}
-use Rattle.std.proofs.Common.{◌≡◌, ℕ, zero, suc, ◌<◌, false, [], ◌∷◌, take, Some, None, refl, ap, arith}
+use Rattle.std.proofs.Common.{◌≡◌, ℕ, zero, suc, ◌<◌, true, false, [], ◌∷◌, take, Some, None, refl, ap, arith}
 use Rattle.sv_packet.specs.declared.event.Event.TheVariants as event
 use Rattle.sv_workload.specs.declared.fault.LineFault.TheVariants.{Number, UnknownWord}
 use Rattle.sv_workload.specs.declared.load.Act.TheVariants as act
@@ -11,7 +11,7 @@ use Rattle.sv_workload.specs.Grammar.{fault_at, IsWorkload, IsFirstFault}
 
 -- what holds where nothing is said
 abbrev nothing : Load
-nothing = record { ring = 1024; clock = 1000000; cpu = 1000000; base = 536870912; shift = 2; timed = false; lines = []; tasks = []; modules = []; commands = []; scripts = []; schedule = [] }
+nothing = record { ring = 1024; clock = 1000000; cpu = 1000000; base = 536870912; shift = 2; timed = false; lines = []; tasks = []; modules = []; commands = []; scripts = []; scheduled = false; schedule = [] }
 
 the_empty_text : IsWorkload [] nothing
 the_empty_text = record { good = refl; meaning = refl }
@@ -35,6 +35,7 @@ settings : IsWorkload (codes "; all of it\n\nring 65536\nclock 4294967295\ncpu 1
   modules = [];
   commands = [];
   scripts = [] ∷ [];
+  scheduled = false;
   schedule = [];
 })
 settings = record { good = refl; meaning = refl }
@@ -74,6 +75,7 @@ each_step = record { good = refl; meaning = refl }
 -- three writers, of whom one does nothing, and a schedule
 a_schedule : IsWorkload (codes "writer\nwriter\n0 start\n1 nop\nwriter\n2 idle\nschedule\n; now\nstep 2\nstep 0 1048576\nread 1\n\nread 65536") (record nothing {
   scripts = [] ∷ (record { advance = 0; act = act.Start } ∷ record { advance = 1; act = act.Event event.Nop } ∷ []) ∷ (record { advance = 2; act = act.Event event.Idle } ∷ []) ∷ [];
+  scheduled = true;
   schedule = action.Step 2 1 ∷ action.Step 0 1048576 ∷ action.Read 1 ∷ action.Read 65536 ∷ [];
 })
 a_schedule = record { good = refl; meaning = refl }

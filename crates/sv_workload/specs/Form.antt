@@ -62,7 +62,7 @@ pub record AreScript (lines : List (List ℕ)) (steps : List Step) : Type 0 wher
 
 -- one writer with these steps; all else is as nothing is said of it
 abbrev pub one_writer : List Step → Load
-one_writer steps = record { ring = 1024; clock = 1000000; cpu = 1000000; base = 536870912; shift = 2; timed = false; lines = []; tasks = []; modules = []; commands = []; scripts = steps ∷ []; schedule = [] }
+one_writer steps = record { ring = 1024; clock = 1000000; cpu = 1000000; base = 536870912; shift = 2; timed = false; lines = []; tasks = []; modules = []; commands = []; scripts = steps ∷ []; scheduled = false; schedule = [] }
 
 -- the text is of the form, and says this
 pub record IsForm (text : List ℕ) (load : Load) : Type 0 where

@@ -20,6 +20,8 @@ pub record Load : Type 0 where
   pub modules : List ModuleRow
   pub commands : List Command
   pub scripts : List (List Step)
+  -- whether there is a schedule, be it empty
+  pub scheduled : Bool
   pub schedule : List Action
 
 -- the steps of a writer, none where there is no such writer

@@ -140,5 +140,6 @@ load_of lines = record {
   modules = modules_of lines;
   commands = commands_of lines;
   scripts = scripts_of lines;
+  scheduled = is_there keyword.Schedule lines;
   schedule = filter_map action_of lines;
 }

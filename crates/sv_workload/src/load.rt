@@ -77,6 +77,7 @@ pub struct Workload {
     modules: Vec<ModuleRow>,
     commands: Vec<Command>,
     writers: Vec<Vec<Step>>,
+    scheduled: bool,
     schedule: Vec<Action>,
     need: Need,
 }
@@ -88,9 +89,9 @@ impl Model for Workload {
 
     ghost Value = { Load };
 
-    ghost view = { λ w. record { ring = w.ring; clock = w.clock; cpu = w.cpu; base = w.base; shift = w.shift; timed = w.timed; lines = w.lines.items; tasks = w.tasks.items; modules = w.modules.items; commands = w.commands.items; scripts = map (λ s. s.items) w.writers.items; schedule = w.schedule.items } };
+    ghost view = { λ w. record { ring = w.ring; clock = w.clock; cpu = w.cpu; base = w.base; shift = w.shift; timed = w.timed; lines = w.lines.items; tasks = w.tasks.items; modules = w.modules.items; commands = w.commands.items; scripts = map (λ s. s.items) w.writers.items; scheduled = w.scheduled; schedule = w.schedule.items } };
 
-    ghost invariant = { λ w. HasNeed (record { ring = w.ring; clock = w.clock; cpu = w.cpu; base = w.base; shift = w.shift; timed = w.timed; lines = w.lines.items; tasks = w.tasks.items; modules = w.modules.items; commands = w.commands.items; scripts = map (λ s. s.items) w.writers.items; schedule = w.schedule.items }) w.need };
+    ghost invariant = { λ w. HasNeed (record { ring = w.ring; clock = w.clock; cpu = w.cpu; base = w.base; shift = w.shift; timed = w.timed; lines = w.lines.items; tasks = w.tasks.items; modules = w.modules.items; commands = w.commands.items; scripts = map (λ s. s.items) w.writers.items; scheduled = w.scheduled; schedule = w.schedule.items }) w.need };
 }
 
 impl Workload {
@@ -115,6 +116,7 @@ impl Workload {
             modules: Vec::new(alloc),
             commands: Vec::new(alloc),
             writers,
+            scheduled: false,
             schedule: Vec::new(alloc),
             need,
         })
@@ -198,6 +200,14 @@ impl Workload {
         self.writers[writer as usize].as_slice()
     }
 
+    /// Whether there is a schedule, be it empty.
+    pub fn scheduled(&self) -> bool
+        ensures { result ≡ self.now.scheduled }
+    {
+        self.scheduled
+    }
+
+    /// The lines of the schedule, in order.
     pub fn schedule(&self) -> &[Action]
         ensures { result.now ≡ self.now.schedule }
     {

@@ -1,10 +1,10 @@
-pub mod Counted
 pub mod Cuts
 pub mod Digits
 pub mod FirstFault
 pub mod FirstLine
 pub mod Needs
 pub mod Scripts
+pub mod Shapes
 pub mod Steps
 pub mod Acts
 pub mod Once

@@ -8,10 +8,10 @@ use std::marker::Model;
 /// What stands behind a keyword.
 #[derive(Drop)]
 pub struct Form {
-    numbers: &'static [Range],
-    more: &'static [Range],
-    text: Option<usize>,
-    identifier: bool,
+    pub numbers: &'static [Range],
+    pub more: &'static [Range],
+    pub text: Option<usize>,
+    pub identifier: bool,
 }
 
 impl Model for Form {

@@ -13,6 +13,7 @@ mod number;
 mod parsing;
 mod range;
 mod script;
+mod shaping;
 mod stepping;
 mod words;
 

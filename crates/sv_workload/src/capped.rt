@@ -15,3 +15,13 @@ pub fn capped_number(word: &[u8]) -> Option<u64>
         None
     }
 }
+
+/// Whether a word is a number of the range.
+pub fn is_within(range: &Range, word: &[u8]) -> bool
+    ensures { result ≡ is_within range.now word.now }
+{
+    match capped_number(word) {
+        Some(n) => is_in(range, n),
+        None => false,
+    }
+}

@@ -10,6 +10,7 @@ mod laws;
 mod lines;
 mod load;
 mod number;
+mod numbering;
 mod parsing;
 mod range;
 mod script;

@@ -1,4 +1,4 @@
-ghost use Rattle.std.specs.Prelude.{◌≡◌, nat_le, true};
+ghost use Rattle.std.specs.Prelude.{◌≡◌, ℕ, ◌-◌, ◌^◌, min, nat_le, true};
 ghost use Rattle.std.specs.Option.{option_map_or};
 ghost use Rattle.sv_workload.specs.Forms.{is_in};
 
@@ -10,7 +10,7 @@ pub struct Range {
 }
 
 fn is_at_most(n: u64, most: Option<u32>) -> bool
-    ensures { result ≡ option_map_or (λ most. nat_le n most) most true }
+    ensures { (whole : ℕ) → n ≡ min whole (2 ^ 64 - 1) → result ≡ option_map_or (λ most. nat_le whole most) most true }
 {
     match most {
         Some(most) => n <= most as u64,
@@ -18,9 +18,15 @@ fn is_at_most(n: u64, most: Option<u32>) -> bool
     }
 }
 
-/// Whether a number is in the range.
-pub fn is_in(range: &Range, n: u64) -> bool
-    ensures { result ≡ is_in range.now n }
+fn is_at_least(n: u64, least: u32) -> bool
+    ensures { (whole : ℕ) → n ≡ min whole (2 ^ 64 - 1) → result ≡ nat_le least whole }
 {
-    range.least as u64 <= n && is_at_most(n, range.most)
+    least as u64 <= n
+}
+
+/// Whether a number is in the range. `u64::MAX` stands for every number from there on.
+pub fn is_in(range: &Range, n: u64) -> bool
+    ensures { (whole : ℕ) → n ≡ min whole (2 ^ 64 - 1) → result ≡ is_in range.now whole }
+{
+    is_at_least(n, range.least) && is_at_most(n, range.most)
 }

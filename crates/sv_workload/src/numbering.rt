@@ -1,0 +1,58 @@
+ghost use Rattle.std.specs.Prelude.{◌≡◌, List, drop, length, true, IsTrue, ◌++◌};
+ghost use Rattle.std.specs.Option.{option_map_or};
+ghost use Rattle.sv_workload.specs.Line.{Line};
+ghost use Rattle.sv_workload.specs.Forms.{between, form_of};
+ghost use Rattle.sv_workload.specs.Checks.{is_within, are_within, has_bad_number};
+
+use crate::capped::is_within;
+use crate::cutting::CutLine;
+use crate::form::Form;
+use crate::number::number;
+use crate::range::Range;
+use crate::words::Words;
+
+/// The most ticks before a step.
+const MOST_TICKS: u64 = 8589934592;
+
+/// Takes a word off the front for each range, up to one that is no number of its range. Whether there is none such.
+fn are_within(ranges: &[Range], words: &mut Words<'_>) -> bool
+    ensures told { result ≡ are_within ranges.now words.old }
+    ensures rest { IsTrue result → words.new ≡ drop (length ranges.now) words.old }
+{
+    for range in ranges {
+        match words.next_word() {
+            Some(word) => {
+                if !is_within(range, word) {
+                    return false;
+                }
+            }
+            None => return true,
+        }
+    }
+    true
+}
+
+/// Whether the word for the ticks is a number of their range, if there is one.
+fn are_ticks(word: Option<&[u8]>) -> bool
+    ensures { result ≡ option_map_or (λ word. is_within (between 0 8589934592) word.now) word.entry true }
+{
+    match word {
+        Some(word) => number(word, MOST_TICKS).is_some(),
+        None => true,
+    }
+}
+
+/// Whether the numbers, and those that may follow, are in their ranges, as far as there are words.
+fn are_numbers(mut words: Words<'_>, form: &Form) -> bool
+    ensures { result ≡ are_within (form.now.numbers ++ form.now.more) words.entry }
+{
+    are_within(form.numbers, &mut words) && are_within(form.more, &mut words)
+}
+
+/// Whether the ticks or a word for a number are no number, or one out of its range.
+pub fn has_bad_number(line: &CutLine<'_>, form: &Form) -> bool
+    requires { form.now ≡ form_of line.now.keyword }
+    ensures { (before : List Line) → result ≡ has_bad_number before line.now }
+{
+    !(are_ticks(line.advance) && are_numbers(line.words.again(), form))
+}

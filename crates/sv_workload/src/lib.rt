@@ -16,6 +16,7 @@ mod range;
 mod script;
 mod shaping;
 mod stepping;
+mod texting;
 mod words;
 
 pub use fault::{LineFault, WorkFault};

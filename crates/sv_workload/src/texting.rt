@@ -1,0 +1,54 @@
+ghost use Rattle.std.specs.Prelude.{◌≡◌, List, ◌&&◌, not, nat_le, drop, length, false};
+ghost use Rattle.std.specs.List.{list_all, join_with_byte};
+ghost use Rattle.std.specs.Option.{option_map_or};
+ghost use Rattle.sv_workload.specs.Line.{Line, text_of};
+ghost use Rattle.sv_workload.specs.Forms.{form_of};
+ghost use Rattle.sv_workload.specs.Checks.{is_printable, has_bad_text};
+
+use crate::cutting::CutLine;
+use crate::form::Form;
+use crate::words::Words;
+
+/// All that is behind so many words, as one text.
+fn text_after<'a>(mut words: Words<'a>, count: usize) -> &'a [u8]
+    ensures { result.now ≡ join_with_byte 32 (drop count words.entry) }
+{
+    for _ in 0..count {
+        let Some(_) = words.next_word() else {
+            break;
+        };
+    }
+    words.text()
+}
+
+/// The text behind the numbers of a line, with all its spaces.
+pub fn text_behind<'a>(line: &CutLine<'a>, form: &Form) -> &'a [u8]
+    requires { form.now ≡ form_of line.now.keyword }
+    ensures { result.now ≡ text_of line.now }
+{
+    text_after(line.words.again(), form.numbers.len())
+}
+
+fn are_printable(text: &[u8]) -> bool
+    ensures { result ≡ list_all is_printable text.now }
+{
+    text.iter().all(|byte| b' ' <= *byte && *byte <= b'~')
+}
+
+/// Whether a text is too long, or not all of it can be printed.
+fn is_bad_text(text: &[u8], most: usize) -> bool
+    ensures { result ≡ not (nat_le (length text.now) most && list_all is_printable text.now) }
+{
+    text.len() > most || !are_printable(text)
+}
+
+/// Whether the text of a line is too long, or not all of it can be printed.
+pub fn has_bad_text(line: &CutLine<'_>, form: &Form) -> bool
+    requires { form.now ≡ form_of line.now.keyword }
+    ensures { (before : List Line) → result ≡ has_bad_text before line.now }
+{
+    match form.text {
+        Some(most) => is_bad_text(text_behind(line, form), most),
+        None => false,
+    }
+}

@@ -3,6 +3,7 @@ pub mod Digits
 pub mod FirstFault
 pub mod FirstLine
 pub mod Needs
+pub mod Numerals
 pub mod Ranges
 pub mod Scripts
 pub mod Shapes

@@ -8,6 +8,7 @@ pub mod Lines
 pub mod Load
 pub mod Meaning
 pub mod Need
+pub mod Numbers
 pub mod Reading
 pub mod Reason
 pub mod Words

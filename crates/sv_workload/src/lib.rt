@@ -11,6 +11,7 @@ mod lines;
 mod load;
 mod number;
 mod numbering;
+mod numbers;
 mod parsing;
 mod range;
 mod script;

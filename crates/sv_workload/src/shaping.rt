@@ -10,6 +10,12 @@ use crate::form::Form;
 use crate::keyword::{Keyword, SetupWord};
 use crate::words::Words;
 
+fn is_word(word: &[u8]) -> bool
+    ensures { result ≡ is_word word.now }
+{
+    !word.is_empty()
+}
+
 /// Takes so many words off the front, up to one that is empty. Whether they are there, and none is empty.
 fn take_words(words: &mut Words<'_>, count: usize) -> bool
     ensures told { result ≡ (nat_le count (length words.old) && list_all is_word (take count words.old)) }
@@ -18,7 +24,7 @@ fn take_words(words: &mut Words<'_>, count: usize) -> bool
     for _ in 0..count {
         match words.next_word() {
             Some(word) => {
-                if word.is_empty() {
+                if !is_word(word) {
                     return false;
                 }
             }
@@ -35,7 +41,7 @@ fn are_few_words(mut words: Words<'_>, most: usize) -> bool
     for _ in 0..most {
         match words.next_word() {
             Some(word) => {
-                if word.is_empty() {
+                if !is_word(word) {
                     return false;
                 }
             }
@@ -53,7 +59,7 @@ fn fits(mut words: Words<'_>, form: &Form) -> bool
         return false;
     }
     match form.text {
-        Some(_) => !words.text().is_empty(),
+        Some(_) => is_word(words.text()),
         None => are_few_words(words, form.more.len()),
     }
 }

@@ -1,4 +1,5 @@
 pub mod Cuts
+pub mod Capping
 pub mod Digits
 pub mod FirstFault
 pub mod FirstLine

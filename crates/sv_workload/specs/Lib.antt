@@ -1,4 +1,5 @@
 pub mod Checks
+pub mod Fit
 pub mod Form
 pub mod Forms
 pub mod Grammar

@@ -9,6 +9,7 @@ mod keyword;
 mod laws;
 mod lines;
 mod load;
+mod making;
 mod number;
 mod numbering;
 mod numbers;

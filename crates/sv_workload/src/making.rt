@@ -1,13 +1,16 @@
 //! What a line that is good makes.
-ghost use Rattle.std.specs.Prelude.{◌≡◌, ◌^◌, ◌<◌, Some, map, slice_index_or};
-ghost use Rattle.sv_workload.specs.declared.keyword.Keyword.TheVariants.{Turn};
+ghost use Rattle.std.specs.Prelude.{◌≡◌, ◌^◌, ◌<◌, Some, IfOk, map, slice_index, slice_index_or};
+ghost use Rattle.sv_workload.specs.declared.keyword.SetupWord.TheVariants as setup;
+ghost use Rattle.sv_workload.specs.declared.keyword.Keyword.TheVariants.{Setup, Turn};
 ghost use Rattle.sv_workload.specs.Numbers.{capped};
-ghost use Rattle.sv_workload.specs.Line.{Line, numbers_of};
+ghost use Rattle.sv_workload.specs.Line.{Line, numbers_of, text_of};
 ghost use Rattle.sv_workload.specs.Fit.{IsFit};
-ghost use Rattle.sv_workload.specs.Meaning.{number, action_by, action_of};
+ghost use Rattle.sv_workload.specs.Meaning.{number, task_of, action_by, action_of};
 
 use crate::keyword::TurnWord;
-use crate::load::Action;
+use crate::load::{Action, Task};
+use std::alloc::Global;
+use sv_prim::{Bytes, NoMemory};
 
 /// The number at a place, or the default where there is none.
 fn number_or(numbers: &[u32], place: usize, default: u32) -> u32
@@ -49,4 +52,28 @@ pub fn action(word: TurnWord, numbers: &[u32]) -> Action
         → numbers.now ≡ map capped (numbers_of line) → Some result ≡ action_of line }
 {
     turn(word, numbers)
+}
+
+/// A task of these numbers and this name.
+fn named_task(alloc: Global, numbers: &[u32], name: &[u8]) -> Result<Task, NoMemory>
+    ensures { IfOk result (λ t. t ≡ record { id = slice_index numbers.now 0; priority = slice_index numbers.now 1; stack_base = slice_index numbers.now 2;
+        stack_size = slice_index numbers.now 3; extra = slice_index numbers.now 4; name = name.now }) }
+{
+    let name = Bytes::new(alloc, name)?;
+    Ok(Task {
+        id: number_or(numbers, 0, 0),
+        priority: number_or(numbers, 1, 0),
+        stack_base: number_or(numbers, 2, 0),
+        stack_size: number_or(numbers, 3, 0),
+        extra: number_or(numbers, 4, 0),
+        name,
+    })
+}
+
+/// The task of a line, by the line's numbers and its text. Memory is taken for the name alone.
+pub fn task(alloc: Global, numbers: &[u32], text: &[u8]) -> Result<Task, NoMemory>
+    ensures { (line : Line) → line.keyword ≡ Setup setup.Task → IsFit line → numbers.now ≡ map capped (numbers_of line)
+        → text.now ≡ text_of line → IfOk result (λ t. t ≡ task_of line) }
+{
+    named_task(alloc, numbers, text)
 }

@@ -1,0 +1,16 @@
+use Rattle.std.proofs.Common.{◌≡◌, ℕ, List, ap, subst, ◌∙◌, slice_index, IfOk}
+use Rattle.sv_workload.specs.declared.load.Task.{Task}
+use Rattle.sv_workload.specs.Line.{numbers_of}
+use Rattle.sv_workload.specs.Meaning.{task_of}
+use Rattle.sv_workload.proofs.Capping.{task_numbers}
+use Rattle.sv_workload.proofs.making.task.Goals as goal
+
+-- a task of these numbers and this name
+abbrev task_from : List ℕ → List ℕ → Task
+task_from ns name = record { id = slice_index ns 0; priority = slice_index ns 1; stack_base = slice_index ns 2; stack_size = slice_index ns 3; extra = slice_index ns 4; name = name }
+
+pub returns : goal.returns
+returns c = λ line word fit numbers text.
+    let same : task_from c.args.numbers.now c.args.text.now ≡ task_of line =
+        ap (λ (ns : List ℕ). task_from ns c.args.text.now) (numbers ∙ task_numbers line word fit) ∙ ap (λ (t : List ℕ). task_from (numbers_of line) t) text in
+    subst (λ (made : Task). IfOk c.named_task.result (λ t. t ≡ made)) same c.named_task.ensures

@@ -1,6 +1,7 @@
 //! Workloads: what the writers of a run do, and in which order.
 #![tactic(auto)]
 
+mod acting;
 mod capped;
 mod cutting;
 mod fault;

@@ -1,10 +1,10 @@
 -- Numbers in their ranges are below 2 ^ 32, so that nothing is lost where they are kept in words of 32 bits.
-use Rattle.std.proofs.Common.{◌≡◌, ℕ, ◌+◌, ◌-◌, ◌^◌, ◌<◌, ◌≤◌, Bool, true, false, ◌&&◌, not, List, [], ◌∷◌, ◌++◌, length, take, map, get_or, Option, Some, None, refl, sym, ap, subst, ◌∙◌, arith, nat_le, min}
-use Rattle.std.specs.Prelude.{unwrap_or, slice_index}
+use Rattle.std.proofs.Common.{◌≡◌, ℕ, ◌+◌, ◌-◌, ◌^◌, ◌<◌, ◌≤◌, Bool, true, false, ◌&&◌, List, [], ◌∷◌, ◌++◌, length, take, map, get_or, Option, Some, None, refl, sym, ap, subst, ◌∙◌, arith, nat_le}
+use Rattle.std.specs.Prelude.{unwrap_or}
 use Rattle.std.specs.List.{list_all}
 use Rattle.std.specs.Option.{option_map_or}
-use Rattle.std.proofs.Math.Nat.{min-eq_left, min-le_right}
-use Rattle.std.proofs.lemmas.Bool.{and_parts, leb-true}
+use Rattle.std.proofs.Math.Nat.{min-eq_left}
+use Rattle.std.proofs.lemmas.Bool.{and_parts, leb-true, not-false}
 use Rattle.std.proofs.lemmas.List.{length-append}
 use Rattle.sv_workload.specs.declared.range.Range.{Range}
 use Rattle.sv_workload.specs.declared.keyword.SetupWord.TheVariants as setup
@@ -16,9 +16,9 @@ use Rattle.sv_workload.specs.declared.keyword.Keyword.{Keyword}
 use Rattle.sv_workload.specs.declared.keyword.Keyword.TheVariants as keyword
 use Rattle.sv_workload.specs.Numbers.{capped}
 use Rattle.sv_workload.specs.Words.{number_of}
-use Rattle.sv_workload.specs.Forms.{between, is_in, form_of}
-use Rattle.sv_workload.specs.Line.{Line, numbers_of, text_of}
-use Rattle.sv_workload.specs.Checks.{is_within, are_within, has_bad_number}
+use Rattle.sv_workload.specs.Forms.{between, form_of}
+use Rattle.sv_workload.specs.Line.{Line, numbers_of}
+use Rattle.sv_workload.specs.Checks.{is_within, are_within}
 use Rattle.sv_workload.specs.Meaning.{number}
 use Rattle.sv_workload.specs.Fit.{IsFit}
 
@@ -112,14 +112,10 @@ act_kept word words e = low_kept (keyword.Act word) words (act_low word) e where
   act_low Call = refl
   act_low Return = refl
 
-not_false : (b : Bool) → not b ≡ false → b ≡ true
-not_false true e = refl
-not_false false e = absurd (let t : true ≡ false = e in cc)
-
 -- each number of a fit line is in its range
 pub in_ranges : (line : Line) (word : Keyword) → line.keyword ≡ word → IsFit line → are_within (ranges word) line.words ≡ true
 in_ranges line word e fit =
-    let within : are_within (ranges line.keyword) line.words ≡ true = (and_parts _ _ (not_false _ fit.numbers)).1 in
+    let within : are_within (ranges line.keyword) line.words ≡ true = (and_parts _ _ (not-false _ fit.numbers)).1 in
     subst (λ (k : Keyword). are_within (ranges k) line.words ≡ true) e within
 
 -- the numbers of a fit line are kept as they are

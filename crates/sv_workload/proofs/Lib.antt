@@ -11,6 +11,8 @@ pub mod Shapes
 pub mod Steps
 pub mod Acts
 pub mod Once
+pub mod FitSteps
+pub mod StepActs
 mod Examples
 mod Faults
 mod LineFaults

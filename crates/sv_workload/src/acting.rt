@@ -71,7 +71,13 @@ fn call(alloc: Global, event: u32, numbers: &[u32]) -> Result<Act, NoMemory>
 }
 
 /// What a step does by its first number and the rest of them.
-fn act_by(alloc: Global, word: ActWord, first: u32, rest: &[u32], text: &[u8]) -> Result<Act, NoMemory>
+fn act_by(
+    alloc: Global,
+    word: ActWord,
+    first: u32,
+    rest: &[u32],
+    text: &[u8],
+) -> Result<Act, NoMemory>
     requires event { word ≡ Call → first ≤ 16383 }
     requires few { word ≡ Call → length rest.now ≤ 8 }
     ensures { IfOk result (λ a. a ≡ act_of word (first ∷ rest.now) text.now) }
@@ -119,7 +125,14 @@ fn number_or_0(numbers: &[u32]) -> u32
 
 /// What a step does by its keyword, its numbers and its text. Memory is taken once where a text or
 /// the numbers of a call are kept, and else not.
-pub fn act(alloc: Global, word: ActWord, numbers: &[u32], text: &[u8], base: u32, shift: u32) -> Result<Act, NoMemory>
+pub fn act(
+    alloc: Global,
+    word: ActWord,
+    numbers: &[u32],
+    text: &[u8],
+    base: u32,
+    shift: u32,
+) -> Result<Act, NoMemory>
     requires shift { shift ≤ 31 }
     requires event { word ≡ Call → slice_index numbers.now 0 ≤ 16383 }
     requires few { word ≡ Call → length numbers.now ≤ 9 }

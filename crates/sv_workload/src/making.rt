@@ -1,14 +1,17 @@
 //! What a line that is good makes.
-ghost use Rattle.std.specs.Prelude.{◌≡◌, ◌^◌, ◌<◌, Some, IfOk, map, slice_index, slice_index_or};
+ghost use Rattle.std.specs.Prelude.{◌≡◌, ◌^◌, ◌<◌, ◌≤◌, Some, IfOk, map, slice_index, slice_index_or};
 ghost use Rattle.sv_workload.specs.declared.keyword.SetupWord.TheVariants as setup;
-ghost use Rattle.sv_workload.specs.declared.keyword.Keyword.TheVariants.{Setup, Turn};
+ghost use Rattle.sv_workload.specs.declared.keyword.Keyword.TheVariants.{Setup, Act, Turn};
 ghost use Rattle.sv_workload.specs.Numbers.{capped};
 ghost use Rattle.sv_workload.specs.Line.{Line, numbers_of, text_of};
 ghost use Rattle.sv_workload.specs.Fit.{IsFit};
-ghost use Rattle.sv_workload.specs.Meaning.{number, task_of, action_by, action_of};
+ghost use Rattle.sv_workload.specs.Meaning.{number, task_of, step_by, action_by, action_of};
+ghost use Rattle.sv_workload.specs.Need.{IsStepAct};
 
-use crate::keyword::TurnWord;
-use crate::load::{Action, Task};
+use crate::acting::act;
+use crate::cutting::CutLine;
+use crate::keyword::{ActWord, TurnWord};
+use crate::load::{Action, Step, Task};
 use std::alloc::Global;
 use sv_prim::{Bytes, NoMemory};
 
@@ -56,8 +59,14 @@ pub fn action(word: TurnWord, numbers: &[u32]) -> Action
 
 /// A task of these numbers and this name.
 fn named_task(alloc: Global, numbers: &[u32], name: &[u8]) -> Result<Task, NoMemory>
-    ensures { IfOk result (λ t. t ≡ record { id = slice_index numbers.now 0; priority = slice_index numbers.now 1; stack_base = slice_index numbers.now 2;
-        stack_size = slice_index numbers.now 3; extra = slice_index numbers.now 4; name = name.now }) }
+    ensures { IfOk result (λ t. t ≡ record {
+      id = slice_index numbers.now 0;
+      priority = slice_index numbers.now 1;
+      stack_base = slice_index numbers.now 2;
+      stack_size = slice_index numbers.now 3;
+      extra = slice_index numbers.now 4;
+      name = name.now;
+    }) }
 {
     let name = Bytes::new(alloc, name)?;
     Ok(Task {
@@ -76,4 +85,31 @@ pub fn task(alloc: Global, numbers: &[u32], text: &[u8]) -> Result<Task, NoMemor
         → text.now ≡ text_of line → IfOk result (λ t. t ≡ task_of line) }
 {
     named_task(alloc, numbers, text)
+}
+
+/// The step of a line, by its word, its numbers and its text. The base is an address in bytes from
+/// which identifiers are counted, and the shift the count of their low bits that are dropped, 0 to 31.
+///
+/// Memory is taken once for a text or for the numbers of a call, and else not.
+pub fn step(
+    alloc: Global,
+    line: &CutLine<'_>,
+    word: ActWord,
+    numbers: &[u32],
+    text: &[u8],
+    base: u32,
+    shift: u32,
+) -> Result<Step, NoMemory>
+    requires keyword { line.now.keyword ≡ Act word }
+    requires fit { IsFit line.now }
+    requires numbers { numbers.now ≡ map capped (numbers_of line.now) }
+    requires text { text.now ≡ text_of line.now }
+    requires shift { shift ≤ 31 }
+    ensures ok { IfOk result (λ s. Some s ≡ step_by line.now.keyword base shift line.now) }
+    ensures advance { IfOk result (λ s. s.advance ≤ 8589934592) }
+    ensures act { IfOk result (λ s. IsStepAct s.act) }
+{
+    let act = act(alloc, word, numbers, text, base, shift)?;
+    let advance = line.ticks();
+    Ok(Step { advance, act })
 }

@@ -1,7 +1,5 @@
-use Rattle.std.proofs.Common.{◌≡◌, ℕ, List, Some, sym, ap, ◌∙◌}
+use Rattle.std.proofs.Common.{ℕ, List, sym, ap, ◌∙◌}
 use Rattle.sv_workload.specs.declared.keyword.Keyword.{Keyword}
-use Rattle.sv_workload.specs.declared.keyword.Keyword.TheVariants.{Turn}
-use Rattle.sv_workload.specs.Line.{numbers_of}
 use Rattle.sv_workload.specs.Meaning.{action_by}
 use Rattle.sv_workload.proofs.Capping.{turn_numbers}
 use Rattle.sv_workload.proofs.making.action.Goals as goal

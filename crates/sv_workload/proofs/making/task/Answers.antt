@@ -12,5 +12,5 @@ task_from ns name = record { id = slice_index ns 0; priority = slice_index ns 1;
 pub returns : goal.returns
 returns c = λ line word fit numbers text.
     let same : task_from c.args.numbers.now c.args.text.now ≡ task_of line =
-        ap (λ (ns : List ℕ). task_from ns c.args.text.now) (numbers ∙ task_numbers line word fit) ∙ ap (λ (t : List ℕ). task_from (numbers_of line) t) text in
+    ap (λ (ns : List ℕ). task_from ns c.args.text.now) (numbers ∙ task_numbers line word fit) ∙ ap (λ (t : List ℕ). task_from (numbers_of line) t) text in
     subst (λ (made : Task). IfOk c.named_task.result (λ t. t ≡ made)) same c.named_task.ensures

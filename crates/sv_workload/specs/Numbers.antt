@@ -1,6 +1,6 @@
--- Numbers of lines in words of 32 bits.
+-- The numbers of a line as the program holds them.
 use Rattle.std.specs.Prelude.{ℕ, ◌-◌, ◌^◌, min}
 
--- the number, or for a greater one the greatest that 32 bits hold
+-- in 32 bits; a greater number counts as the greatest that they hold
 abbrev pub capped : ℕ → ℕ
 capped n = min n (2 ^ 32 - 1)

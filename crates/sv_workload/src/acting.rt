@@ -9,6 +9,7 @@ ghost use Rattle.sv_workload.specs.Meaning.{act_of, with_shrunk};
 use crate::form::form_of;
 use crate::keyword::{ActWord, Keyword};
 use crate::load::Act;
+use crate::places::number_or;
 use std::alloc::Global;
 use sv_packet::Event;
 use sv_prim::{Buf, Bytes, NoMemory, Numbers, put_u32, shrink};
@@ -18,7 +19,7 @@ fn sent(word: ActWord, first: u32, base: u32, shift: u32) -> u32
     requires { shift ≤ 31 }
     ensures { (rest : List ℕ) → result ∷ rest ≡ with_shrunk (form_of (keyword.Act word)).identifier base shift (first ∷ rest) }
 {
-    if form_of(Keyword::Act(word)).has_identifier() {
+    if form_of(Keyword::Act(word)).identifier {
         shrink(first, base, shift)
     } else {
         first
@@ -93,7 +94,7 @@ fn act_by(
         ActWord::Ready => Ok(Act::Event(Event::TaskReady { task: first })),
         ActWord::Unready => Ok(Act::Event(Event::TaskUnready {
             task: first,
-            cause: number_or_0(rest),
+            cause: number_or(rest, 0, 0),
         })),
         ActWord::Create => Ok(Act::Event(Event::TaskCreate { task: first })),
         ActWord::Terminate => Ok(Act::Event(Event::TaskTerminate { task: first })),
@@ -110,16 +111,6 @@ fn act_by(
             event: first,
             value: rest.first().copied(),
         })),
-    }
-}
-
-/// The first number, or 0 where there is none.
-fn number_or_0(numbers: &[u32]) -> u32
-    ensures { result ≡ slice_index numbers.now 0 }
-{
-    match numbers.first() {
-        Some(number) => *number,
-        None => 0,
     }
 }
 

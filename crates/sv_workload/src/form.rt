@@ -22,15 +22,6 @@ impl Model for Form {
     ghost view = { λ f. record { numbers = f.numbers.now; more = f.more.now; text = f.text; identifier = f.identifier } };
 }
 
-impl Form {
-    /// Whether the first number behind the keyword is an identifier of the target.
-    pub fn has_identifier(&self) -> bool
-        ensures { result ≡ self.now.identifier }
-    {
-        self.identifier
-    }
-}
-
 const WORD: Range = Range {
     least: 0,
     most: Some(u32::MAX),

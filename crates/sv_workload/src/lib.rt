@@ -15,6 +15,7 @@ mod number;
 mod numbering;
 mod numbers;
 mod parsing;
+mod places;
 mod range;
 mod script;
 mod shaping;

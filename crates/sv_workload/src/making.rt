@@ -1,5 +1,5 @@
 //! What a line that is good makes.
-ghost use Rattle.std.specs.Prelude.{◌≡◌, ◌^◌, ◌<◌, ◌≤◌, Some, IfOk, map, slice_index, slice_index_or};
+ghost use Rattle.std.specs.Prelude.{◌≡◌, ◌^◌, ◌<◌, ◌≤◌, Some, IfOk, map, slice_index};
 ghost use Rattle.sv_workload.specs.declared.keyword.SetupWord.TheVariants as setup;
 ghost use Rattle.sv_workload.specs.declared.keyword.Keyword.TheVariants.{Setup, Act, Turn};
 ghost use Rattle.sv_workload.specs.Numbers.{capped};
@@ -12,26 +12,9 @@ use crate::acting::act;
 use crate::cutting::CutLine;
 use crate::keyword::{ActWord, TurnWord};
 use crate::load::{Action, Step, Task};
+use crate::places::number_or;
 use std::alloc::Global;
 use sv_prim::{Bytes, NoMemory};
-
-/// The number at a place, or the default where there is none.
-fn number_or(numbers: &[u32], place: usize, default: u32) -> u32
-    ensures { result ≡ slice_index_or numbers.now place default }
-{
-    match numbers.get(place) {
-        Some(number) => *number,
-        None => default,
-    }
-}
-
-/// The first number of a line, by its numbers. One above the greatest `u32` counts as that one, and
-/// a line without numbers has 0.
-pub fn first_number(numbers: &[u32]) -> u32
-    ensures { (line : Line) → numbers.now ≡ map capped (numbers_of line) → result ≡ capped (number line 0) }
-{
-    number_or(numbers, 0, 0)
-}
 
 /// The turn that these numbers behind a word of the schedule give away.
 fn turn(word: TurnWord, numbers: &[u32]) -> Action

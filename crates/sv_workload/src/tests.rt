@@ -1,7 +1,12 @@
 use super::*;
+use crate::acting::act;
+use crate::keyword::{ActWord, TurnWord};
+use crate::making::{action, task};
+use crate::places::first_number;
 use std::alloc::{AllocError, Global};
 use std::test::*;
 use sv_packet::Event;
+use sv_prim::Bytes;
 
 /// What a step says, in short: its ticks, the identifier of its packet or a number from 100 on, and the number in it.
 fn told(step: &Step) -> (u64, u32, u32) {
@@ -156,5 +161,84 @@ fn what_the_form_says_nothing_of(rt: HostRuntime) -> Result<(), Fail> {
     assert_eq!(rt; load.commands().len(), 0);
     assert_eq!(rt; load.schedule().len(), 0);
     formed_once();
+    Ok(())
+}
+
+fn records(act: &Act, want: &Event) -> bool {
+    match act {
+        Act::Event(event) => *event == *want,
+        _ => false,
+    }
+}
+
+#[test]
+fn steps_of_numbers_and_texts(rt: HostRuntime) -> Result<(), Fail> {
+    let alloc = rt.alloc();
+    let run = act(alloc, ActWord::Run, &[536870920], b"", 536870912, 2)?;
+    assert!(rt; records(&run, &Event::TaskStart { task: 2 }));
+    let isr = act(alloc, ActWord::Isr, &[536870920], b"", 536870912, 2)?;
+    assert!(rt; records(&isr, &Event::IsrEnter { isr: 536870920 }));
+    let unready = act(alloc, ActWord::Unready, &[536870912, 9], b"", 536870912, 2)?;
+    assert!(rt; records(&unready, &Event::TaskUnready { task: 0, cause: 9 }));
+    let answered = act(alloc, ActWord::Return, &[33, 4], b"", 536870912, 2)?;
+    assert!(rt;
+        records(
+            &answered,
+            &Event::EndCall {
+                event: 33,
+                value: Some(4)
+            }
+        )
+    );
+    let ended = act(alloc, ActWord::Return, &[33], b"", 536870912, 2)?;
+    assert!(rt;
+        records(
+            &ended,
+            &Event::EndCall {
+                event: 33,
+                value: None
+            }
+        )
+    );
+    let called = act(alloc, ActWord::Call, &[40, 1, 300], b"", 536870912, 2)?;
+    let payload = Bytes::new(alloc, &[1, 0xAC, 2])?;
+    assert!(rt; records(&called, &Event::Opaque { id: 40, payload }));
+    let named = act(alloc, ActWord::Name, &[536870916], b"a b", 536870912, 2)?;
+    let text = Bytes::new(alloc, b"a b")?;
+    assert!(rt; records(&named, &Event::NameResource { resource: 1, text }));
+    Ok(())
+}
+
+#[test]
+fn turns_and_tasks(rt: HostRuntime) -> Result<(), Fail> {
+    assert_eq!(rt;
+        action(TurnWord::Step, &[3]),
+        Action::Step {
+            writer: 3,
+            count: 1
+        }
+    );
+    assert_eq!(rt;
+        action(TurnWord::Step, &[3, 8]),
+        Action::Step {
+            writer: 3,
+            count: 8
+        }
+    );
+    assert_eq!(rt; action(TurnWord::Read, &[64]), Action::Read { most: 64 });
+    assert_eq!(rt; action(TurnWord::Send, &[]), Action::Send);
+    assert_eq!(rt; first_number(&[5, 6]), 5);
+    let task = task(rt.alloc(), &[1, 2, 3, 4, 5], b"idle")?;
+    assert_eq!(rt;
+        (
+            task.id,
+            task.priority,
+            task.stack_base,
+            task.stack_size,
+            task.extra
+        ),
+        (1, 2, 3, 4, 5)
+    );
+    assert_eq!(rt; task.name.bytes(), b"idle".as_slice());
     Ok(())
 }

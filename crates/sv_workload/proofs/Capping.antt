@@ -37,6 +37,7 @@ first_capped line numbers e = ap (λ (l : List ℕ). get_or l 0 0) e ∙ first_o
   first_of [] = refl
   first_of (n ∷ ns) = refl
 
+-- a number below 2 ^ 32 stays as it is
 capped_low : (n : ℕ) → n < 2 ^ 32 → capped n ≡ n
 capped_low n low = let le : n ≤ 2 ^ 32 - 1 = omega arith in min-eq_left le
 
@@ -69,6 +70,7 @@ numbers_behind word words = map number_or_0 (take (length (form_of word).numbers
 abbrev pub IsKept : Keyword → List (List ℕ) → Type 0
 IsKept word words = map capped (numbers_behind word words) ≡ numbers_behind word words
 
+-- with low ranges alone the numbers behind a keyword lose nothing
 low_kept : (word : Keyword) (words : List (List ℕ)) → list_all is_low (ranges word) ≡ true → are_within (ranges word) words ≡ true → IsKept word words
 low_kept word words low e =
     subst (λ (n : ℕ). map capped (map number_or_0 (take n words)) ≡ map number_or_0 (take n words)) (length-append (form_of word).numbers (form_of word).more) (all_low (ranges word) words low e)
@@ -82,11 +84,13 @@ step_kept (word ∷ words) e low =
     let rest = all_low (between 1 1048576 ∷ []) words refl both.1 in
     ap (λ (n : ℕ). n ∷ map capped (map number_or_0 (take 1 words))) first ∙ ap (λ (ns : List ℕ). number_or_0 word ∷ ns) rest
 
+-- nor do those of the schedule, where the first is low
 turn_kept : (word : TurnWord) (words : List (List ℕ)) → are_within (ranges (keyword.Turn word)) words ≡ true → get_or (numbers_behind (keyword.Turn word) words) 0 0 < 2 ^ 32 → IsKept (keyword.Turn word) words
 turn_kept Step words e low = step_kept words e low
 turn_kept Read words e low = low_kept (keyword.Turn Read) words refl e
 turn_kept Send words e low = low_kept (keyword.Turn Send) words refl e
 
+-- nor do those of a step: each word has low ranges alone
 act_kept : (word : ActWord) (words : List (List ℕ)) → are_within (ranges (keyword.Act word)) words ≡ true → IsKept (keyword.Act word) words
 act_kept word words e = low_kept (keyword.Act word) words (act_low word) e where
   act_low : (word : ActWord) → list_all is_low (ranges (keyword.Act word)) ≡ true
@@ -122,9 +126,11 @@ in_ranges line word e fit =
 pub act_numbers : (line : Line) (word : ActWord) → line.keyword ≡ keyword.Act word → IsFit line → map capped (numbers_of line) ≡ numbers_of line
 act_numbers line word e fit = subst (λ (k : Keyword). IsKept k line.words) (sym e) (act_kept word line.words (in_ranges line (keyword.Act word) e fit))
 
+-- of a task
 pub task_numbers : (line : Line) → line.keyword ≡ keyword.Setup setup.Task → IsFit line → map capped (numbers_of line) ≡ numbers_of line
 task_numbers line e fit = subst (λ (k : Keyword). IsKept k line.words) (sym e) (low_kept (keyword.Setup setup.Task) line.words refl (in_ranges line (keyword.Setup setup.Task) e fit))
 
+-- of a line of the schedule, where the first is low
 pub turn_numbers : (line : Line) (word : TurnWord) → line.keyword ≡ keyword.Turn word → IsFit line → number line 0 < 2 ^ 32 → map capped (numbers_of line) ≡ numbers_of line
 turn_numbers line word e fit low =
     let first : get_or (numbers_behind (keyword.Turn word) line.words) 0 0 < 2 ^ 32 = subst (λ (k : Keyword). get_or (numbers_behind k line.words) 0 0 < 2 ^ 32) e low in

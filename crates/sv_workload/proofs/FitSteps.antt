@@ -27,19 +27,23 @@ use Rattle.sv_workload.proofs.StepActs.{IsKeptTo, step_act}
 
 -- ---- ticks
 
+-- a number of the range of ticks
 ticks_behind : (n : Option ℕ) → option_map_or (is_in (between 0 8589934592)) n false ≡ true → unwrap_or n 0 ≤ 8589934592
 ticks_behind None e = omega arith
 ticks_behind (Some n) e = leb-true n 8589934592 (and_parts (nat_le 0 n) (nat_le n 8589934592) e).1
 
+-- a word for ticks, or none
 ticks_of : (word : Option (List ℕ)) → option_map_or (is_within (between 0 8589934592)) word true ≡ true → unwrap_or (option_and_then number_of word) 0 ≤ 8589934592
 ticks_of None e = omega arith
 ticks_of (Some word) e = ticks_behind (number_of word) e
 
+-- the ticks of a fit line
 ticks_most : (line : Line) → IsFit line → unwrap_or (option_and_then number_of line.advance) 0 ≤ 8589934592
 ticks_most line fit = ticks_of line.advance (and_parts _ _ (not-false _ fit.numbers)).0
 
 -- ---- texts
 
+-- the text of a fit line is no longer than its form says
 text_most : (line : Line) (word : Keyword) (most : ℕ) → line.keyword ≡ word → (form_of word).text ≡ Some most → IsFit line → length (text_of line) ≤ most
 text_most line word most e some fit =
     let text = text_of line in
@@ -51,24 +55,29 @@ text_most line word most e some fit =
 
 -- ---- calls
 
+-- a number of the range of calls
 call_within : (n : Option ℕ) → option_map_or (is_in (between 32 16383)) n false ≡ true → (32 ≤ unwrap_or n 0) × (unwrap_or n 0 ≤ 16383)
 call_within None e = absurd (let t : false ≡ true = e in cc)
 call_within (Some n) e = let both = and_parts (nat_le 32 n) (nat_le n 16383) e in (leb-true 32 n both.0, leb-true n 16383 both.1)
 
+-- a call has a first number, and it is in its range
 call_words : (words : List (List ℕ)) (text : List ℕ) → fits (form_of (keyword.Act Call)) words text ≡ true → are_within (ranges (keyword.Act Call)) words ≡ true
     → (32 ≤ get_or (numbers_behind (keyword.Act Call) words) 0 0) × (get_or (numbers_behind (keyword.Act Call) words) 0 0 ≤ 16383)
 call_words [] text shape e = absurd (let t : false ≡ true = shape in cc)
 call_words (word ∷ words) text shape e = call_within (number_of word) (and_parts _ _ e).0
 
+-- a call has at most nine numbers
 call_few : (words : List (List ℕ)) → length (numbers_behind (keyword.Act Call) words) ≤ 9
 call_few words = omega (arith, length-map (take 9 words) number_or_0, length-take 9 words, min-le_left 9 (length words))
 
+-- the words of a fit step line are of its form
 shape_of : (line : Line) (word : ActWord) → line.keyword ≡ keyword.Act word → IsFit line → is_same (keyword.Setup setup.Command) (keyword.Act word) ≡ false → fits (form_of (keyword.Act word)) line.words (text_of line) ≡ true
 shape_of line word e fit other =
     let there : not (cond (is_same (keyword.Setup setup.Command) (keyword.Act word)) (fits_command line.words) (fits (form_of (keyword.Act word)) line.words (text_of line))) ≡ false =
     subst (λ (k : Keyword). not (cond (is_same (keyword.Setup setup.Command) k) (fits_command line.words) (fits (form_of k) line.words (text_of line))) ≡ false) e fit.shape in
     not-false _ (subst (λ (b : Bool). not (cond b (fits_command line.words) (fits (form_of (keyword.Act word)) line.words (text_of line))) ≡ false) other there)
 
+-- the numbers of a fit line that calls
 call_numbers : (line : Line) → line.keyword ≡ keyword.Act Call → IsFit line → (32 ≤ get_or (numbers_of line) 0 0) × (get_or (numbers_of line) 0 0 ≤ 16383) × (length (numbers_of line) ≤ 9)
 call_numbers line e fit =
     let first = call_words line.words (text_of line) (shape_of line Call e fit refl) (in_ranges line (keyword.Act Call) e fit) in
@@ -76,6 +85,7 @@ call_numbers line e fit =
 
 -- ---- steps
 
+-- what a fit line says keeps to its word
 kept_to : (line : Line) (word : ActWord) → line.keyword ≡ keyword.Act word → IsFit line → IsKeptTo word (numbers_of line) (text_of line)
 kept_to line word e fit = record {
   name = λ is. text_most line (keyword.Act Name) 128 (e ∙ ap keyword.Act is) refl fit;
@@ -110,6 +120,7 @@ pub record IsStepOf (line : Line) (base shift : ℕ) (step : Step) : Type 0 wher
   pub advance : step.advance ≤ 8589934592
   pub act : IsStepAct step.act
 
+-- the step of what was read of a fit line
 pub step_of : (line : Line) (word : ActWord) (base shift : ℕ) (numbers text : List ℕ) (ticks : ℕ) (act : Act) → line.keyword ≡ keyword.Act word → IsFit line → numbers ≡ map capped (numbers_of line) → text ≡ text_of line
     → ticks ≡ min (unwrap_or (option_and_then number_of line.advance) 0) (2 ^ 64 - 1) → act ≡ act_of word (with_shrunk (form_of (keyword.Act word)).identifier base shift numbers) text
     → IsStepOf line base shift (record { advance = ticks; act = act })

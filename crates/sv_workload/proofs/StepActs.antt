@@ -27,13 +27,16 @@ pub record IsKeptTo (word : ActWord) (numbers text : List ℕ) : Type 0 where
   pub most : word ≡ Call → get_or numbers 0 0 ≤ 16383
   pub few : word ≡ Call → length numbers ≤ 9
 
+-- an identifier or a length has at most two bytes
 short_small : (n : ℕ) → length (short_spelling n) ≤ 2
 short_small n = grind (arith, nat_tests)
 
+-- either list is short enough
 one_of : (b : Bool) (xs ys : List ℕ) (n : ℕ) → length xs ≤ n → length ys ≤ n → length (cond b xs ys) ≤ n
 one_of true xs ys n x y = x
 one_of false xs ys n x y = y
 
+-- at most four bytes stand before a payload
 head_small : (id size : ℕ) → length (head_spelling id size) ≤ 4
 head_small id size = one_of (nat_le 24 id) (short_spelling id ++ short_spelling size) (id ∷ []) 4 (omega (arith, length-append (short_spelling id) (short_spelling size), short_small id, short_small size)) (omega arith)
 
@@ -41,6 +44,7 @@ head_small id size = one_of (nat_le 24 id) (short_spelling id ++ short_spelling 
 around : (event : Event) → length (spelling_of event 0) ≤ length (payload_of event) + 5
 around event = omega (arith, head_small (identifier event) (length (payload_of event)), length-append (head_spelling (identifier event) (length (payload_of event))) (payload_of event ++ number_spelling 0), length-append (payload_of event) (number_spelling 0))
 
+-- a text with its length
 text_small : (text : List ℕ) → length text ≤ 128 → length (text_spelling text) ≤ 129
 text_small text short = omega (arith, ap length (text_spelling-short text (omega (arith, short))))
 
@@ -48,12 +52,14 @@ text_small text short = omega (arith, ap length (text_spelling-short text (omega
 plain : (event : Event) → HasTexts 128 event × IsShort event × IsKeptAsBytes event → length (payload_of event) ≤ 10 → IsStepAct (act.Event event)
 plain event is small = (short_recordable event is.0 is.1 is.2, omega (arith, around event, small))
 
+-- one number, and two
 one_small : (n : ℕ) → length (number_spelling n ++ []) ≤ 10
 one_small n = omega (arith, of_few 4 n, length-append (number_spelling n) [])
 
 two_small : (n m : ℕ) → length (number_spelling n ++ (number_spelling m ++ [])) ≤ 10
 two_small n m = omega (arith, of_few 4 n, of_few 4 m, length-append (number_spelling n) (number_spelling m ++ []), length-append (number_spelling m) [])
 
+-- the end of a call, with an answer or without
 end_call : (call : ℕ) (value : Option ℕ) → IsStepAct (act.Event (event.EndCall call value))
 end_call call None = plain (event.EndCall call None) ((tt, tt), tt, tt) (one_small call)
 end_call call (Some value) = plain (event.EndCall call (Some value)) ((tt, (tt, tt)), tt, tt) (two_small call value)
@@ -77,6 +83,7 @@ name_resource resource text short =
       ),
     )
 
+-- a text without arguments
 print_text : (text : List ℕ) → length text ≤ 128 → IsStepAct (act.Event (event.Print text 0 []))
 print_text text short = (print_recordable text 0 [] short (omega arith), omega (arith, around (event.Print text 0 []), length-append (text_spelling text) (0 ∷ 0 ∷ []), text_small text short))
 
@@ -86,13 +93,16 @@ known_low (event.Opaque id payload) known = absurd (known tt)
 known_low (event.EndCall call value) known = omega arith
 known_low other known = omega arith
 
+-- so a payload under a greater identifier is no form of it
 no_form : (id : ℕ) (payload : List ℕ) → 32 ≤ id → IsForm id payload → ⊥
 no_form id payload high (event, known, same, rest) = omega (arith, high, same, known_low event known)
 
+-- each number has at most five bytes
 numbers_small : (numbers : List ℕ) → length (numbers_spelling numbers) ≤ 5 * length numbers
 numbers_small [] = omega arith
 numbers_small (n ∷ ns) = omega (arith, length-append (number_spelling n) (numbers_spelling ns), of_few 4 n, numbers_small ns)
 
+-- a call with at most eight numbers
 call_event : (numbers : List ℕ) → 32 ≤ get_or numbers 0 0 → get_or numbers 0 0 ≤ 16383 → length numbers ≤ 9 → IsStepAct (act.Event (event.Opaque (get_or numbers 0 0) (numbers_spelling (drop 1 numbers))))
 call_event numbers least most few =
     let id = get_or numbers 0 0 in
@@ -102,6 +112,7 @@ call_event numbers least most few =
       omega (arith, around (event.Opaque id payload), length-append payload [], small),
     )
 
+-- the step of a word with what it keeps to
 pub step_act : (word : ActWord) (numbers text : List ℕ) → IsKeptTo word numbers text → IsStepAct (act_of word numbers text)
 step_act Start ns text is = tt
 step_act Stop ns text is = tt

@@ -4,7 +4,7 @@ use Rattle.std.specs.Prelude.{codes}
 use Rattle.sv_packet.specs.declared.event.Event.TheVariants.{MarkStart, MarkStop}
 use Rattle.sv_workload.specs.declared.load.Act.TheVariants.{Event, Start, Stop}
 use Rattle.sv_workload.specs.Form.{IsForm, IsFirstOutside, lines_of, one_writer}
-use Rattle.sv_workload.proofs.Scripts.{none_yet, stops, stops_at_once}
+use Rattle.sv_workload.proofs.OneScript.{none_yet, stops, stops_at_once}
 
 -- a start and a stop among marks
 form_0 : IsForm (codes "writer\n5 mark 9\n0 start\n2 mark 9\n3 stop\n1 mark 9") (one_writer (record { advance = 5; act = Event (MarkStart 9) } ∷ record { advance = 0; act = Start } ∷ record { advance = 2; act = Event (MarkStart 9) } ∷ record { advance = 3; act = Stop } ∷ record { advance = 1; act = Event (MarkStart 9) } ∷ []))

@@ -6,8 +6,8 @@ pub mod FirstLine
 pub mod Needs
 pub mod Numerals
 pub mod Ranges
-pub mod Scripts
 pub mod Shapes
+pub mod OneScript
 pub mod Steps
 pub mod Acts
 pub mod Once

@@ -9,7 +9,7 @@ use Rattle.sv_workload.specs.Load.{Load}
 use Rattle.sv_workload.specs.Need.{one_if, is_start_act}
 use Rattle.sv_workload.specs.Form.{MeansStep, IsForm, IsFirstOutside, IsShort, AreScript, HasOneLoad, HasOnePlace, AreApart, IsDecided, lines_of, bytes_of, one_writer}
 use Rattle.sv_workload.specs.Reading.{step_of}
-use Rattle.sv_workload.proofs.Scripts.{same_steps, first_lines, Progress, none_yet, goes_on, all_read, stops, stops_at_once}
+use Rattle.sv_workload.proofs.OneScript.{same_steps, first_lines, Progress, none_yet, goes_on, all_read, stops, stops_at_once}
 
 abbrev writer : List ℕ
 writer = codes "writer"

@@ -13,3 +13,6 @@ pub mod Numbers
 pub mod Reading
 pub mod Reason
 pub mod Words
+pub mod Settings
+pub mod Scripts
+pub mod Draft

@@ -3,7 +3,7 @@ use Rattle.std.proofs.lemmas.Bool.{eqb-true, false≢true}
 use Rattle.std.proofs.lemmas.List.{nil_from_length}
 use Rattle.sv_workload.specs.declared.load.Step.{Step}
 use Rattle.sv_workload.specs.Form.{IsShort}
-use Rattle.sv_workload.proofs.Scripts.{Walk, walk_goes_on, walk_stops, walk_ends}
+use Rattle.sv_workload.proofs.OneScript.{Walk, walk_goes_on, walk_stops, walk_ends}
 use Rattle.sv_workload.proofs.Acts.{step_act}
 use Rattle.sv_workload.proofs.Steps.{step_means}
 use Rattle.sv_workload.proofs.parsing.parse.Goals as goal

@@ -1,5 +1,5 @@
 use Rattle.std.proofs.Common.{length}
-use Rattle.sv_workload.proofs.Scripts.{Walk}
+use Rattle.sv_workload.proofs.OneScript.{Walk}
 use Rattle.sv_workload.proofs.parsing.parse.Given as goal
 
 abbrev pub invariant-loop-rest : goal.invariant-loop-rest

@@ -1,0 +1,26 @@
+-- The scripts of the writers as they grow: steps go to the writer that was named last.
+use Rattle.std.specs.Prelude.{◌≡◌, ℕ, ◌≤◌, ◌*◌, List, [], ◌∷◌, ◌++◌, length, sum_by, All}
+use Rattle.sv_workload.specs.declared.load.Step.{Step}
+use Rattle.sv_workload.specs.Need.{act_bytes, is_start_act, one_if, IsStepAct}
+
+-- one more step for the last script
+abbrev pub onto_last : Step → List (List Step) → List (List Step)
+onto_last step [] = []
+onto_last step (script ∷ []) = (script ++ step ∷ []) ∷ []
+onto_last step (script ∷ next ∷ scripts) = script ∷ onto_last step (next ∷ scripts)
+
+-- a number for each step, summed over all scripts
+abbrev pub over_scripts : (Step → ℕ) → List (List Step) → ℕ
+over_scripts f scripts = sum_by (λ script. sum_by f script) scripts
+
+-- what is counted over scripts, which are within the limits
+pub record AreCounted (scripts : List (List Step)) (steps starts bytes : ℕ) : Type 0 where
+  pub few_scripts : length scripts ≤ 16
+  pub steps_is : steps ≡ over_scripts (λ s. 1) scripts
+  pub few_steps : steps ≤ 1048576
+  pub starts_is : starts ≡ over_scripts (λ s. one_if (is_start_act s.act)) scripts
+  pub few_starts : starts ≤ 256
+  pub bytes_is : bytes ≡ over_scripts (λ s. act_bytes s.act) scripts
+  pub small : bytes ≤ 153 * steps
+  pub advances : All (λ script. All (λ s. s.advance ≤ 8589934592) script) scripts
+  pub acts : All (λ script. All (λ s. IsStepAct s.act) script) scripts

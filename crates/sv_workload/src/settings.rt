@@ -1,0 +1,42 @@
+ghost use Rattle.std.specs.Prelude.{◌≡◌, unwrap_or};
+
+/// The settings that a text told so far. One that it didn't tell has its default.
+#[derive(Clone, Copy, Debug, Drop)]
+pub struct Settings {
+    pub ring: Option<u32>,
+    pub clock: Option<u32>,
+    pub cpu: Option<u32>,
+    pub base: Option<u32>,
+    pub shift: Option<u32>,
+}
+
+impl Settings {
+    ghost use Rattle.sv_workload.specs.Settings.{nothing_told, base_told, shift_told};
+
+    /// Nothing is told yet.
+    pub fn new() -> Settings
+        ensures { result ≡ nothing_told }
+    {
+        Settings {
+            ring: None,
+            clock: None,
+            cpu: None,
+            base: None,
+            shift: None,
+        }
+    }
+
+    /// What identifiers are counted from.
+    pub fn base(&self) -> u32
+        ensures { result ≡ base_told self.now }
+    {
+        self.base.unwrap_or(536870912)
+    }
+
+    /// By how many bits identifiers are shortened.
+    pub fn shift(&self) -> u32
+        ensures { result ≡ shift_told self.now }
+    {
+        self.shift.unwrap_or(2)
+    }
+}

@@ -1,6 +1,7 @@
 pub mod Cuts
 pub mod Capping
 pub mod Digits
+pub mod Keywords
 pub mod FirstFault
 pub mod FirstLine
 pub mod Needs
@@ -8,6 +9,7 @@ pub mod Numerals
 pub mod Ranges
 pub mod Shapes
 pub mod OneScript
+pub mod Standing
 pub mod Steps
 pub mod Acts
 pub mod Once

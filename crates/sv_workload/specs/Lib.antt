@@ -16,3 +16,4 @@ pub mod Words
 pub mod Settings
 pub mod Scripts
 pub mod Draft
+pub mod Checking

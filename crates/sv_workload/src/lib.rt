@@ -3,9 +3,10 @@
 
 mod acting;
 mod capped;
+mod checking;
 mod cutting;
-mod fault;
 mod draft;
+mod fault;
 mod form;
 mod keyword;
 mod laws;
@@ -19,9 +20,9 @@ mod parsing;
 mod places;
 mod range;
 mod script;
-mod shaping;
 mod scripts;
 mod settings;
+mod shaping;
 mod stepping;
 mod texting;
 mod words;

@@ -1,0 +1,76 @@
+-- Keywords are told apart by how they are spelled, and lines are counted by them.
+use Rattle.std.proofs.Common.{◌≡◌, ℕ, ◌+◌, Bool, true, false, not, cond, List, [], ◌∷◌, ◌++◌, refl, sym, ap, ◌∙◌, arith}
+use Rattle.std.specs.Prelude.{map, bytes_eq}
+use Rattle.std.specs.List.{list_all}
+use Rattle.std.proofs.lemmas.Bool.{and_parts, false_from_ne_true}
+use Rattle.std.proofs.lemmas.List.Sums.{sum_by-cons}
+use Rattle.std.proofs.lemmas.Slice.Eq.{bytes_eq-Decides}
+use Rattle.sv_workload.specs.declared.keyword.SetupWord.TheVariants.{Ring, Clock, Cpu, Base, Shift, Time, Desc, Task, Module, Command}
+use Rattle.sv_workload.specs.declared.keyword.ActWord.TheVariants.{Start, Stop, Nop, Isr, IsrExit, Run, Halt, Ready, Unready, Create, Terminate, Mark, MarkEnd, Idle, Sched, Timer, TimerExit, Name, Print, Call, Return}
+use Rattle.sv_workload.specs.declared.keyword.TurnWord.TheVariants.{Step, Read, Send}
+use Rattle.sv_workload.specs.declared.keyword.Keyword.{Keyword}
+use Rattle.sv_workload.specs.declared.keyword.Keyword.TheVariants.{Setup, Writer, Act, Schedule, Turn, Unknown}
+use Rattle.sv_workload.specs.Keywords.{step_keywords, spelling, is_same, keyword_among}
+use Rattle.sv_workload.specs.Line.{Line}
+use Rattle.sv_workload.specs.Meaning.{says, count}
+use Rattle.sv_workload.specs.Draft.{is_later}
+
+-- all that can be spelled
+abbrev every_keyword : List Keyword
+every_keyword = step_keywords ++ (map Setup (Ring ∷ Clock ∷ Cpu ∷ Base ∷ Shift ∷ Time ∷ Desc ∷ Task ∷ Module ∷ Command ∷ []) ++ (Writer ∷ Schedule ∷ map Turn (Step ∷ Read ∷ Send ∷ [])))
+
+read_back : (k : Keyword) → keyword_among every_keyword (spelling k) ≡ k
+read_back (Setup Ring) = refl
+read_back (Setup Clock) = refl
+read_back (Setup Cpu) = refl
+read_back (Setup Base) = refl
+read_back (Setup Shift) = refl
+read_back (Setup Time) = refl
+read_back (Setup Desc) = refl
+read_back (Setup Task) = refl
+read_back (Setup Module) = refl
+read_back (Setup Command) = refl
+read_back Writer = refl
+read_back (Act Start) = refl
+read_back (Act Stop) = refl
+read_back (Act Nop) = refl
+read_back (Act Isr) = refl
+read_back (Act IsrExit) = refl
+read_back (Act Run) = refl
+read_back (Act Halt) = refl
+read_back (Act Ready) = refl
+read_back (Act Unready) = refl
+read_back (Act Create) = refl
+read_back (Act Terminate) = refl
+read_back (Act Mark) = refl
+read_back (Act MarkEnd) = refl
+read_back (Act Idle) = refl
+read_back (Act Sched) = refl
+read_back (Act Timer) = refl
+read_back (Act TimerExit) = refl
+read_back (Act Name) = refl
+read_back (Act Print) = refl
+read_back (Act Call) = refl
+read_back (Act Return) = refl
+read_back Schedule = refl
+read_back (Turn Step) = refl
+read_back (Turn Read) = refl
+read_back (Turn Send) = refl
+read_back Unknown = refl
+
+-- keywords that are spelled alike are one
+pub same_keyword : (a b : Keyword) → is_same a b ≡ true → a ≡ b
+same_keyword a b e = sym (read_back a) ∙ ap (keyword_among every_keyword) ((bytes_eq-Decides (spelling a) (spelling b)).0 e) ∙ read_back b
+
+-- a keyword that no line can have yet isn't counted
+pub none_later : (k : Keyword) → is_later k ≡ true → (lines : List Line) → list_all (λ line. not (is_later line.keyword)) lines ≡ true → count k lines ≡ 0
+none_later k later [] all = refl
+none_later k later (line ∷ lines) all =
+    let parts = and_parts (not (is_later line.keyword)) (list_all (λ line. not (is_later line.keyword)) lines) all in
+    let other : says k line ≡ false = false_from_ne_true (says k line) (λ e.
+    let here : is_later line.keyword ≡ true = ap is_later (sym (same_keyword k line.keyword e)) ∙ later in
+    let there : not (is_later line.keyword) ≡ false = ap not here in
+    absurd (let n : true ≡ false = sym parts.0 ∙ there in cc)) in
+    let rest : count k lines ≡ 0 = none_later k later lines parts.1 in
+    let here : cond {A = ℕ} (says k line) 1 0 ≡ 0 = ap (λ (b : Bool). cond {A = ℕ} b 1 0) other in
+    omega (arith, sum_by-cons (λ line. cond {A = ℕ} (says k line) 1 0) line lines, here, rest)

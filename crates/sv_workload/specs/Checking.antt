@@ -1,0 +1,38 @@
+-- The checks of a line by what a draft of the lines before it holds.
+use Rattle.std.specs.Prelude.{ℕ, nat_lt, nat_le, Bool, false, ◌||◌, length}
+use Rattle.std.specs.Option.{is_some}
+use Rattle.sv_workload.specs.declared.keyword.SetupWord.TheVariants.{Ring, Clock, Cpu, Base, Shift, Task as a_task}
+use Rattle.sv_workload.specs.declared.keyword.ActWord.TheVariants.{Start}
+use Rattle.sv_workload.specs.declared.keyword.Keyword.{Keyword}
+use Rattle.sv_workload.specs.declared.keyword.Keyword.TheVariants.{Setup, Writer, Act, Turn}
+use Rattle.sv_workload.specs.declared.settings.Settings.{Settings}
+use Rattle.sv_workload.specs.Need.{one_if, is_start_act}
+use Rattle.sv_workload.specs.Scripts.{over_scripts}
+use Rattle.sv_workload.specs.Checks.{may_stand}
+use Rattle.sv_workload.specs.Draft.{Draft}
+
+-- the keyword may stand behind what the draft holds
+abbrev pub has_place : Draft → Keyword → Bool
+has_place draft keyword = may_stand (nat_lt 0 (length draft.scripts)) (nat_lt 0 (length draft.tasks)) draft.scheduled keyword
+
+-- the keyword's setting was told
+abbrev pub is_told : Settings → Keyword → Bool
+is_told settings (Setup Ring) = is_some settings.ring
+is_told settings (Setup Clock) = is_some settings.clock
+is_told settings (Setup Cpu) = is_some settings.cpu
+is_told settings (Setup Base) = is_some settings.base
+is_told settings (Setup Shift) = is_some settings.shift
+is_told settings _ = false
+
+-- no further step is within the limits
+abbrev pub has_all_steps : Draft → Bool
+has_all_steps draft = nat_le 1048576 (over_scripts (λ s. 1) draft.scripts)
+
+-- no further line with this keyword is within the limits
+abbrev pub has_all : Draft → Keyword → Bool
+has_all draft (Setup a_task) = nat_le 32 (length draft.tasks)
+has_all draft Writer = nat_le 16 (length draft.scripts)
+has_all draft (Act Start) = has_all_steps draft || nat_le 256 (over_scripts (λ s. one_if (is_start_act s.act)) draft.scripts)
+has_all draft (Act word) = has_all_steps draft
+has_all draft (Turn word) = nat_le 1048576 (length draft.schedule)
+has_all draft _ = false

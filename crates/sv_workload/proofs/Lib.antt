@@ -8,6 +8,7 @@ pub mod Needs
 pub mod Numerals
 pub mod Ranges
 pub mod Shapes
+pub mod Numbered
 pub mod OneScript
 pub mod Standing
 pub mod Steps

@@ -1,6 +1,6 @@
 -- What a draft holds of the lines that it stands for.
-use Rattle.std.proofs.Common.{◌≡◌, ℕ, ◌+◌, ◌-◌, Bool, true, false, not, cond, ◌||◌, List, [], ◌∷◌, length, drop, Option, Some, None, refl, sym, ap, ◌∙◌, arith, nat_lt, nat_le}
-use Rattle.std.specs.Prelude.{map, find, filter_map, option_map, sum_by, count_by}
+use Rattle.std.proofs.Common.{◌≡◌, ℕ, ◌+◌, ◌-◌, Bool, true, false, not, cond, ◌||◌, List, [], ◌∷◌, length, drop, Option, Some, refl, sym, ap, ◌∙◌, arith, nat_lt, nat_le}
+use Rattle.std.specs.Prelude.{find, filter_map, option_map, count_by}
 use Rattle.std.specs.List.{slice_split, cons_option}
 use Rattle.std.specs.Option.{is_some}
 use Rattle.std.proofs.lemmas.Bool.{lt-ltb}
@@ -9,7 +9,7 @@ use Rattle.std.proofs.lemmas.List.Sums.{sum_by-cons, length-filter}
 use Rattle.std.proofs.lemmas.List.Splits.{length-slice_split}
 use Rattle.sv_workload.specs.declared.load.Action.{Action}
 use Rattle.sv_workload.specs.declared.keyword.SetupWord.{SetupWord}
-use Rattle.sv_workload.specs.declared.keyword.SetupWord.TheVariants.{Ring, Clock, Cpu, Base, Shift, Time, Desc, Task as a_task, Module, Command}
+use Rattle.sv_workload.specs.declared.keyword.SetupWord.TheVariants.{Desc, Task as a_task, Module, Command}
 use Rattle.sv_workload.specs.declared.keyword.ActWord.TheVariants.{Start}
 use Rattle.sv_workload.specs.declared.keyword.TurnWord.TheVariants.{Step, Read, Send}
 use Rattle.sv_workload.specs.declared.keyword.Keyword.{Keyword}

@@ -1,8 +1,10 @@
 -- The checks of a line by what a draft of the lines before it holds.
-use Rattle.std.specs.Prelude.{ℕ, nat_lt, nat_le, Bool, false, ◌||◌, length}
+use Rattle.std.specs.Prelude.{ℕ, nat_lt, nat_le, ◌==◌, Bool, false, ◌||◌, length}
+use Rattle.std.specs.List.{list_any}
 use Rattle.std.specs.Option.{is_some}
 use Rattle.sv_workload.specs.declared.keyword.SetupWord.TheVariants.{Ring, Clock, Cpu, Base, Shift, Task as a_task}
 use Rattle.sv_workload.specs.declared.keyword.ActWord.TheVariants.{Start}
+use Rattle.sv_workload.specs.declared.keyword.TurnWord.TheVariants.{Step}
 use Rattle.sv_workload.specs.declared.keyword.Keyword.{Keyword}
 use Rattle.sv_workload.specs.declared.keyword.Keyword.TheVariants.{Setup, Writer, Act, Turn}
 use Rattle.sv_workload.specs.declared.settings.Settings.{Settings}
@@ -36,3 +38,13 @@ has_all draft (Act Start) = has_all_steps draft || nat_le 256 (over_scripts (λ 
 has_all draft (Act word) = has_all_steps draft
 has_all draft (Turn word) = nat_le 1048576 (length draft.schedule)
 has_all draft _ = false
+
+-- the keyword's setting was told, or a task with this identifier was
+abbrev pub repeats : Draft → Keyword → ℕ → Bool
+repeats draft (Setup a_task) id = list_any (λ task. task.id == id) draft.tasks
+repeats draft keyword id = is_told draft.settings keyword
+
+-- the turn goes to a writer that there isn't
+abbrev pub lacks_writer : Draft → Keyword → ℕ → Bool
+lacks_writer draft (Turn Step) writer = nat_le (length draft.scripts) writer
+lacks_writer draft _ writer = false

@@ -1,15 +1,15 @@
 -- A workload in the making: what the lines so far told.
-use Rattle.std.specs.Prelude.{◌≡◌, ℕ, ◌≤◌, Bool, true, false, not, List, [], length, filter_map}
+use Rattle.std.specs.Prelude.{◌≡◌, ◌≤◌, Bool, true, false, not, List, [], length, filter_map}
 use Rattle.std.specs.List.{list_all}
 use Rattle.sv_workload.specs.declared.settings.Settings.{Settings}
 use Rattle.sv_workload.specs.declared.load.Task.{Task}
 use Rattle.sv_workload.specs.declared.load.Step.{Step}
 use Rattle.sv_workload.specs.declared.load.Action.{Action}
-use Rattle.sv_workload.specs.declared.keyword.SetupWord.TheVariants.{Ring, Clock, Cpu, Base, Shift, Time, Desc, Task as a_task, Module, Command}
+use Rattle.sv_workload.specs.declared.keyword.SetupWord.TheVariants.{Ring, Clock, Cpu, Base, Shift, Time, Desc, Module, Command}
 use Rattle.sv_workload.specs.declared.keyword.ActWord.TheVariants.{Start}
 use Rattle.sv_workload.specs.declared.keyword.TurnWord.TheVariants.{Send}
 use Rattle.sv_workload.specs.declared.keyword.Keyword.{Keyword}
-use Rattle.sv_workload.specs.declared.keyword.Keyword.TheVariants.{Setup, Writer, Act, Schedule, Turn, Unknown}
+use Rattle.sv_workload.specs.declared.keyword.Keyword.TheVariants.{Setup, Act, Schedule, Turn}
 use Rattle.sv_workload.specs.Line.{Line}
 use Rattle.sv_workload.specs.Load.{Load}
 use Rattle.sv_workload.specs.Need.{one_if, is_start_act}

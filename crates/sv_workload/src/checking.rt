@@ -1,14 +1,19 @@
-ghost use Rattle.std.specs.Prelude.{◌≡◌, List, nat_lt, ◌==◌};
+ghost use Rattle.std.specs.Prelude.{◌≡◌, ◌≤◌, List, [], nat_lt, ◌==◌, false, not, ◌&&◌, length, map, slice_index};
 ghost use Rattle.std.specs.List.{list_any};
-ghost use Rattle.sv_workload.specs.Line.{Line};
-ghost use Rattle.sv_workload.specs.Checks.{sets_identifiers, may_stand, is_misplaced, is_too_many};
+ghost use Rattle.sv_workload.specs.Forms.{form_of};
+ghost use Rattle.sv_workload.specs.Line.{Line, numbers_of};
+ghost use Rattle.sv_workload.specs.Numbers.{capped};
+ghost use Rattle.sv_workload.specs.Settings.{base_told, shift_told};
+ghost use Rattle.sv_workload.specs.Checks.{sets_identifiers, may_stand, is_aligned, is_misplaced, has_bad_number, is_unaligned, is_repeated, is_too_many, has_no_writer};
 ghost use Rattle.sv_workload.specs.Draft.{Stands};
-ghost use Rattle.sv_workload.specs.Checking.{has_place, is_told, has_all_steps, has_all};
+ghost use Rattle.sv_workload.specs.Checking.{has_place, is_told, has_all_steps, has_all, repeats, lacks_writer};
 
 use crate::cutting::CutLine;
 use crate::draft::Draft;
-use crate::keyword::{ActWord, Keyword, SetupWord};
+use crate::form::Form;
+use crate::keyword::{ActWord, Keyword, SetupWord, TurnWord};
 use crate::settings::Settings;
+use sv_prim::aligned;
 
 /// Whether a setup word says how identifiers are shrunk.
 fn sets_identifiers(word: SetupWord) -> bool
@@ -41,6 +46,16 @@ fn is_told(settings: &Settings, keyword: Keyword) -> bool
         Keyword::Setup(SetupWord::Base) => settings.base.is_some(),
         Keyword::Setup(SetupWord::Shift) => settings.shift.is_some(),
         _ => false,
+    }
+}
+
+/// The first of these numbers, 0 if there is none.
+fn first_of(numbers: &[u32]) -> u32
+    ensures { result ≡ slice_index numbers.now 0 }
+{
+    match numbers.first() {
+        Some(number) => *number,
+        None => 0,
     }
 }
 
@@ -83,6 +98,42 @@ impl Draft {
         self.tasks.iter().any(|task| task.id == id)
     }
 
+    /// Whether a keyword's setting, or a task's identifier, was told.
+    fn repeats(&self, keyword: Keyword, id: u32) -> bool
+        ensures { result ≡ repeats self.now keyword id }
+    {
+        match keyword {
+            Keyword::Setup(SetupWord::Task) => self.has_task(id),
+            keyword => is_told(&self.settings, keyword),
+        }
+    }
+
+    /// Whether nothing of an identifier is lost as it is shrunk.
+    fn is_aligned(&self, id: u32) -> bool
+        ensures { result ≡ is_aligned id (base_told self.now.settings) (shift_told self.now.settings) }
+    {
+        aligned(id, self.settings.base(), self.settings.shift())
+    }
+
+    /// Whether something is lost of an identifier, if the number is one.
+    fn loses_bits(&self, identifier: bool, id: u32) -> bool
+        ensures { result ≡ (identifier && not (is_aligned id (base_told self.now.settings) (shift_told self.now.settings))) }
+    {
+        identifier && !self.is_aligned(id)
+    }
+
+    /// Whether a turn goes to a writer that there isn't.
+    fn lacks_writer(&self, keyword: Keyword, writer: u32) -> bool
+        ensures told { result ≡ lacks_writer self.now keyword writer }
+        ensures few { length self.now.scripts ≤ 16 }
+    {
+        let writers = self.scripts.writers();
+        match keyword {
+            Keyword::Turn(TurnWord::Step) => writer >= writers,
+            _ => false,
+        }
+    }
+
     /// Whether a line stands in another part of the text than its own.
     pub fn is_misplaced(&self, line: &CutLine<'_>) -> bool
         ensures { (lines : List Line) → Stands self.now lines → result ≡ is_misplaced lines line.now }
@@ -95,5 +146,32 @@ impl Draft {
         ensures { (lines : List Line) → Stands self.now lines → result ≡ is_too_many lines line.now }
     {
         self.has_all(line.keyword)
+    }
+
+    /// Whether a line's identifier has low bits that the target would not send. Its numbers are of their ranges.
+    pub fn is_unaligned(&self, line: &CutLine<'_>, form: &Form, numbers: &[u32]) -> bool
+        requires form { form.now ≡ form_of line.now.keyword }
+        requires numbers { numbers.now ≡ map capped (numbers_of line.now) }
+        requires good { has_bad_number [] line.now ≡ false }
+        ensures { (lines : List Line) → Stands self.now lines → result ≡ is_unaligned lines line.now }
+    {
+        self.loses_bits(form.identifier, first_of(numbers))
+    }
+
+    /// Whether a line's setting was told before, or a task with its identifier was. Its numbers are of their ranges.
+    pub fn is_repeated(&self, line: &CutLine<'_>, numbers: &[u32]) -> bool
+        requires numbers { numbers.now ≡ map capped (numbers_of line.now) }
+        requires good { has_bad_number [] line.now ≡ false }
+        ensures { (lines : List Line) → Stands self.now lines → result ≡ is_repeated lines line.now }
+    {
+        self.repeats(line.keyword, first_of(numbers))
+    }
+
+    /// Whether a line's turn goes to a writer that there isn't.
+    pub fn has_no_writer(&self, line: &CutLine<'_>, numbers: &[u32]) -> bool
+        requires numbers { numbers.now ≡ map capped (numbers_of line.now) }
+        ensures { (lines : List Line) → Stands self.now lines → result ≡ has_no_writer lines line.now }
+    {
+        self.lacks_writer(line.keyword, first_of(numbers))
     }
 }

@@ -1,4 +1,4 @@
-use Rattle.std.proofs.Common.{◌≡◌, not, ap, ◌∙◌}
+use Rattle.std.proofs.Common.{not, ap, ◌∙◌}
 use Rattle.sv_workload.specs.Line.{Line}
 use Rattle.sv_workload.specs.Checking.{has_place}
 use Rattle.sv_workload.proofs.Standing.{misplaced}

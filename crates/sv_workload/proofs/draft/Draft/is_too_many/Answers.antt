@@ -1,4 +1,4 @@
-use Rattle.std.proofs.Common.{◌≡◌, ap, ◌∙◌}
+use Rattle.std.proofs.Common.{ap, ◌∙◌}
 use Rattle.sv_workload.specs.Line.{Line}
 use Rattle.sv_workload.specs.Checking.{has_all}
 use Rattle.sv_workload.proofs.Standing.{too_many}

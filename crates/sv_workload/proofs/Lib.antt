@@ -2,6 +2,7 @@ pub mod Cuts
 pub mod Capping
 pub mod Digits
 pub mod Keywords
+pub mod Faulted
 pub mod FirstFault
 pub mod FirstLine
 pub mod Needs

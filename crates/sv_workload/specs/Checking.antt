@@ -1,17 +1,35 @@
 -- The checks of a line by what a draft of the lines before it holds.
-use Rattle.std.specs.Prelude.{ℕ, nat_lt, nat_le, ◌==◌, Bool, false, ◌||◌, length}
+use Rattle.std.specs.Prelude.{ℕ, nat_lt, nat_le, ◌==◌, Bool, true, false, ◌||◌, List, length, take, drop, find, Option, option_map}
 use Rattle.std.specs.List.{list_any}
 use Rattle.std.specs.Option.{is_some}
 use Rattle.sv_workload.specs.declared.keyword.SetupWord.TheVariants.{Ring, Clock, Cpu, Base, Shift, Task as a_task}
 use Rattle.sv_workload.specs.declared.keyword.ActWord.TheVariants.{Start}
 use Rattle.sv_workload.specs.declared.keyword.TurnWord.TheVariants.{Step}
 use Rattle.sv_workload.specs.declared.keyword.Keyword.{Keyword}
-use Rattle.sv_workload.specs.declared.keyword.Keyword.TheVariants.{Setup, Writer, Act, Turn}
+use Rattle.sv_workload.specs.declared.keyword.Keyword.TheVariants.{Setup, Writer, Act, Turn, Unknown}
+use Rattle.sv_workload.specs.declared.fault.LineFault.{LineFault}
 use Rattle.sv_workload.specs.declared.settings.Settings.{Settings}
 use Rattle.sv_workload.specs.Need.{one_if, is_start_act}
 use Rattle.sv_workload.specs.Scripts.{over_scripts}
-use Rattle.sv_workload.specs.Checks.{may_stand}
+use Rattle.sv_workload.specs.Line.{Line}
+use Rattle.sv_workload.specs.Checks.{Check, checks, may_stand}
 use Rattle.sv_workload.specs.Draft.{Draft}
+
+-- what the first of these checks that a line fails finds wrong
+abbrev pub first_of : List (Check × LineFault) → List Line → Line → Option LineFault
+first_of some before line = option_map (λ check. check.1) (find (λ check. check.0 before line) some)
+
+-- the checks of where a line stands, and of its words
+abbrev pub form_checks : List (Check × LineFault)
+form_checks = take 5 checks
+
+-- the checks of what a line says behind the lines before it
+abbrev pub later_checks : List (Check × LineFault)
+later_checks = drop 5 checks
+
+abbrev pub is_no_keyword : Keyword → Bool
+is_no_keyword Unknown = true
+is_no_keyword _ = false
 
 -- the keyword may stand behind what the draft holds
 abbrev pub has_place : Draft → Keyword → Bool

@@ -1,18 +1,22 @@
-ghost use Rattle.std.specs.Prelude.{◌≡◌, ◌≤◌, List, [], nat_lt, ◌==◌, false, not, ◌&&◌, length, map, slice_index};
+ghost use Rattle.std.specs.Prelude.{◌≡◌, ◌≤◌, List, [], IfNone, nat_lt, ◌==◌, false, not, ◌&&◌, length, map, slice_index};
 ghost use Rattle.std.specs.List.{list_any};
 ghost use Rattle.sv_workload.specs.Forms.{form_of};
 ghost use Rattle.sv_workload.specs.Line.{Line, numbers_of};
 ghost use Rattle.sv_workload.specs.Numbers.{capped};
 ghost use Rattle.sv_workload.specs.Settings.{base_told, shift_told};
-ghost use Rattle.sv_workload.specs.Checks.{sets_identifiers, may_stand, is_aligned, is_misplaced, has_bad_number, is_unaligned, is_repeated, is_too_many, has_no_writer};
-ghost use Rattle.sv_workload.specs.Draft.{Stands};
-ghost use Rattle.sv_workload.specs.Checking.{has_place, is_told, has_all_steps, has_all, repeats, lacks_writer};
+ghost use Rattle.sv_workload.specs.Checks.{sets_identifiers, may_stand, is_aligned, is_unknown, is_misplaced, has_bad_number, is_unaligned, is_repeated, is_too_many, has_no_writer, fault_of};
+ghost use Rattle.sv_workload.specs.Draft.{Stands, is_later};
+ghost use Rattle.sv_workload.specs.Checking.{has_place, is_told, has_all_steps, has_all, repeats, lacks_writer, is_no_keyword, first_of, form_checks, later_checks};
 
 use crate::cutting::CutLine;
 use crate::draft::Draft;
+use crate::fault::LineFault;
 use crate::form::Form;
 use crate::keyword::{ActWord, Keyword, SetupWord, TurnWord};
+use crate::numbering::has_bad_number;
 use crate::settings::Settings;
+use crate::shaping::is_misshapen;
+use crate::texting::has_bad_text;
 use sv_prim::aligned;
 
 /// Whether a setup word says how identifiers are shrunk.
@@ -47,6 +51,22 @@ fn is_told(settings: &Settings, keyword: Keyword) -> bool
         Keyword::Setup(SetupWord::Shift) => settings.shift.is_some(),
         _ => false,
     }
+}
+
+fn is_no_keyword(keyword: Keyword) -> bool
+    ensures { result ≡ is_no_keyword keyword }
+{
+    match keyword {
+        Keyword::Unknown => true,
+        _ => false,
+    }
+}
+
+/// Whether no keyword stands where it should.
+fn is_unknown(line: &CutLine<'_>) -> bool
+    ensures { (lines : List Line) → result ≡ is_unknown lines line.now }
+{
+    is_no_keyword(line.keyword)
 }
 
 /// The first of these numbers, 0 if there is none.
@@ -173,5 +193,66 @@ impl Draft {
         ensures { (lines : List Line) → Stands self.now lines → result ≡ has_no_writer lines line.now }
     {
         self.lacks_writer(line.keyword, first_of(numbers))
+    }
+
+    /// What is wrong with where a line stands, or with its words.
+    fn form_fault(&self, line: &CutLine<'_>, form: &Form) -> Option<LineFault>
+        requires form { form.now ≡ form_of line.now.keyword }
+        requires known { is_later line.now.keyword ≡ false }
+        ensures first { (lines : List Line) → Stands self.now lines → result ≡ first_of form_checks lines line.now }
+        ensures good { IfNone result (has_bad_number [] line.now ≡ false) }
+    {
+        if is_unknown(line) {
+            return Some(LineFault::UnknownWord);
+        }
+        if self.is_misplaced(line) {
+            return Some(LineFault::Misplaced);
+        }
+        if is_misshapen(line, form) {
+            return Some(LineFault::Shape);
+        }
+        if has_bad_number(line, form) {
+            return Some(LineFault::Number);
+        }
+        if has_bad_text(line, form) {
+            return Some(LineFault::BadText);
+        }
+        None
+    }
+
+    /// What is wrong with what a line says behind the lines before it.
+    fn later_fault(&self, line: &CutLine<'_>, form: &Form, numbers: &[u32]) -> Option<LineFault>
+        requires form { form.now ≡ form_of line.now.keyword }
+        requires numbers { numbers.now ≡ map capped (numbers_of line.now) }
+        requires known { is_later line.now.keyword ≡ false }
+        requires good { has_bad_number [] line.now ≡ false }
+        ensures { (lines : List Line) → Stands self.now lines → result ≡ first_of later_checks lines line.now }
+    {
+        if self.is_unaligned(line, form, numbers) {
+            return Some(LineFault::Unaligned);
+        }
+        if self.is_repeated(line, numbers) {
+            return Some(LineFault::Repeated);
+        }
+        if self.is_too_many(line) {
+            return Some(LineFault::TooMany);
+        }
+        if self.has_no_writer(line, numbers) {
+            return Some(LineFault::NoSuchWriter);
+        }
+        None
+    }
+
+    /// What is wrong with a line behind the lines of the draft, if anything is.
+    pub fn fault(&self, line: &CutLine<'_>, form: &Form, numbers: &[u32]) -> Option<LineFault>
+        requires form { form.now ≡ form_of line.now.keyword }
+        requires numbers { numbers.now ≡ map capped (numbers_of line.now) }
+        requires known { is_later line.now.keyword ≡ false }
+        ensures { (lines : List Line) → Stands self.now lines → result ≡ fault_of lines line.now }
+    {
+        match self.form_fault(line, form) {
+            Some(fault) => Some(fault),
+            None => self.later_fault(line, form, numbers),
+        }
     }
 }

@@ -8,6 +8,7 @@ pub mod FirstLine
 pub mod Needs
 pub mod Numerals
 pub mod Ranges
+pub mod Scripted
 pub mod Shapes
 pub mod Numbered
 pub mod OneScript

@@ -3,11 +3,11 @@ ghost use Rattle.sv_packet.specs.Spelling.{spelling_of, IsRecordable};
 ghost use Rattle.sv_workload.specs.Need.{act_bytes, one_if, is_start_act, IsStepAct};
 ghost use Rattle.sv_workload.specs.Form.{IsShort, one_writer};
 
-use crate::load::{Act, Need, Step, Workload};
+use crate::load::{Need, Step, Workload};
+use crate::scripts::{act_bytes, start_count};
 use std::alloc::Global;
 use std::marker::Model;
-use sv_packet::{Event, encode};
-use sv_prim::{Buf, NoMemory};
+use sv_prim::NoMemory;
 
 /// The steps of a writer that were read so far, and what is counted over them.
 #[derive(Drop)]
@@ -27,40 +27,6 @@ impl Model for Script {
     ghost view = { λ s. s.steps.items };
 
     ghost invariant = { λ s. IsCounted s.steps.items s.starts s.bytes };
-}
-
-/// How many bytes the spelling of an event has, with the delta 0.
-fn event_len(event: &Event) -> u64
-    requires recordable { IsRecordable event.now }
-    ensures { result ≡ length (spelling_of event.now 0) }
-{
-    let mut packet = Buf::new();
-    encode(event, 0, &mut packet);
-    packet.len() as u64
-}
-
-/// How many bytes of a stream a step needs at most.
-fn act_bytes(act: &Act) -> u64
-    requires act { IsStepAct act.now }
-    ensures bytes { result ≡ act_bytes act.now }
-    ensures most { result ≤ 153 }
-{
-    match act {
-        Act::Event(event) => event_len(event) + 15,
-        Act::Start => 0,
-        Act::Stop => 17,
-    }
-}
-
-/// 1 for a step that starts the recorder.
-fn start_count(act: &Act) -> u64
-    ensures { result ≡ one_if (is_start_act act.now) }
-{
-    match act {
-        Act::Start => 1,
-        Act::Stop => 0,
-        Act::Event(_) => 0,
-    }
 }
 
 impl Script {

@@ -1,8 +1,13 @@
-ghost use Rattle.std.specs.Prelude.{◌≡◌, ◌≤◌, []};
+ghost use Rattle.std.specs.Prelude.{◌≡◌, ◌+◌, ◌<◌, ◌≤◌, ◌∷◌, ◌++◌, [], length, map, OnOk, OnErr};
+ghost use Rattle.sv_packet.specs.Spelling.{spelling_of, IsRecordable};
+ghost use Rattle.sv_workload.specs.Need.{act_bytes, one_if, is_start_act, IsStepAct};
+ghost use Rattle.sv_workload.specs.Scripts.{over_scripts, onto_last};
 
-use crate::load::Step;
+use crate::load::{Act, Step};
 use std::alloc::Global;
 use std::marker::Model;
+use sv_packet::{Event, encode};
+use sv_prim::{Buf, NoMemory};
 
 /// The scripts of the writers so far, and what is counted over their steps.
 #[derive(Drop)]
@@ -25,11 +30,62 @@ impl Model for Scripts {
     ghost invariant = { λ s. AreCounted (map (λ script. script.items) s.writers.items) s.steps s.starts s.bytes };
 }
 
-impl Scripts {
-    ghost use Rattle.std.specs.Prelude.{length};
-    ghost use Rattle.sv_workload.specs.Need.{one_if, is_start_act};
-    ghost use Rattle.sv_workload.specs.Scripts.{over_scripts};
+/// How many bytes the spelling of an event has, with the delta 0.
+fn event_len(event: &Event) -> u64
+    requires recordable { IsRecordable event.now }
+    ensures { result ≡ length (spelling_of event.now 0) }
+{
+    let mut packet = Buf::new();
+    encode(event, 0, &mut packet);
+    packet.len() as u64
+}
 
+/// How many bytes of a stream a step needs at most.
+pub fn act_bytes(act: &Act) -> u64
+    requires act { IsStepAct act.now }
+    ensures bytes { result ≡ act_bytes act.now }
+    ensures most { result ≤ 153 }
+{
+    match act {
+        Act::Event(event) => event_len(event) + 15,
+        Act::Start => 0,
+        Act::Stop => 17,
+    }
+}
+
+/// 1 for a step that starts the recorder.
+pub fn start_count(act: &Act) -> u64
+    ensures { result ≡ one_if (is_start_act act.now) }
+{
+    match act {
+        Act::Start => 1,
+        Act::Stop => 0,
+        Act::Event(_) => 0,
+    }
+}
+
+/// Adds a step to a script. An `Err` changes nothing.
+fn add_step(script: &mut Vec<Step>, step: Step) -> Result<(), NoMemory>
+    ensures ok { OnOk result (script.new.items ≡ script.old.items ++ step ∷ []) }
+    ensures err { OnErr result (script.new.items ≡ script.old.items) }
+{
+    if script.push(step).is_err() {
+        return Err(NoMemory);
+    }
+    Ok(())
+}
+
+/// Adds a step to the last of these scripts. An `Err` changes nothing.
+fn add_to_last(writers: &mut Vec<Vec<Step>>, step: Step) -> Result<(), NoMemory>
+    requires some { 0 < length writers.old.items }
+    ensures ok { OnOk result (map (λ script. script.items) writers.new.items ≡ onto_last step (map (λ script. script.items) writers.old.items)) }
+    ensures err { OnErr result (map (λ script. script.items) writers.new.items ≡ map (λ script. script.items) writers.old.items) }
+{
+    let last = writers.len() - 1;
+    add_step(&mut writers[last], step)
+}
+
+impl Scripts {
     /// No writer is named yet.
     pub fn new(alloc: Global) -> Scripts
         ensures { result ≡ [] }
@@ -64,5 +120,36 @@ impl Scripts {
         ensures few { over_scripts (λ s. one_if (is_start_act s.act)) self.now ≤ 256 }
     {
         self.starts
+    }
+
+    /// Begins the script of a further writer. An `Err` changes nothing.
+    pub fn open(&mut self, alloc: Global) -> Result<(), NoMemory>
+        requires few { length self.old < 16 }
+        ensures ok { OnOk result (self.new ≡ self.old ++ [] ∷ []) }
+        ensures err { OnErr result (self.new ≡ self.old) }
+    {
+        if self.writers.push(Vec::new(alloc)).is_err() {
+            return Err(NoMemory);
+        }
+        Ok(())
+    }
+
+    /// Adds a step to the script of the last writer. An `Err` changes nothing.
+    pub fn push(&mut self, step: Step) -> Result<(), NoMemory>
+        requires some { 0 < length self.old }
+        requires few { over_scripts (λ s. 1) self.old < 1048576 }
+        requires few_starts { over_scripts (λ s. one_if (is_start_act s.act)) self.old + one_if (is_start_act step.act) ≤ 256 }
+        requires advance { step.advance ≤ 8589934592 }
+        requires act { IsStepAct step.act }
+        ensures ok { OnOk result (self.new ≡ onto_last step self.old) }
+        ensures err { OnErr result (self.new ≡ self.old) }
+    {
+        let starts = self.starts + start_count(&step.act);
+        let bytes = self.bytes + act_bytes(&step.act);
+        add_to_last(&mut self.writers, step)?;
+        self.steps += 1;
+        self.starts = starts;
+        self.bytes = bytes;
+        Ok(())
     }
 }

@@ -1,4 +1,4 @@
--- The need of a workload of one writer, from what was counted over its steps.
+-- The need of a workload, from what was counted over its steps.
 use Rattle.std.proofs.Common.{◌≡◌, ℕ, ◌+◌, ◌*◌, ◌≤◌, List, [], ◌∷◌, ◌++◌, length, refl, ◌∙◌, arith}
 use Rattle.std.specs.Prelude.{sum_by, All}
 use Rattle.std.proofs.lemmas.List.{length-append}
@@ -30,6 +30,11 @@ counted_more steps step starts bytes more_starts more_bytes is short advance act
 pub has_need : (steps : List Step) (starts bytes : ℕ) (need : Need) → IsCounted steps starts bytes → need.items ≡ 3 * length steps + 10 * starts → need.bytes ≡ 16 + bytes + 651 * starts → HasNeed (one_writer steps) need
 has_need steps starts bytes need is items all = record {
   limits = record {
+    ring_least = omega arith;
+    ring_most = omega arith;
+    clock = omega arith;
+    cpu = omega arith;
+    shift = omega arith;
     writers = omega arith;
     steps = omega (arith, ones steps, is.short.few);
     starts = omega (arith, is.short.few_starts);

@@ -58,8 +58,13 @@ IsStepAct (Event event) = IsRecordable event × (length (spelling_of event 0) �
 IsStepAct Start = Unit {0}
 IsStepAct Stop = Unit {0}
 
--- the most of everything that a workload holds
+-- the ranges of the settings, and the most of everything that a workload holds
 pub record IsWithinLimits (load : Load) : Type 0 where
+  pub ring_least : 64 ≤ load.ring
+  pub ring_most : load.ring ≤ 65536
+  pub clock : 1 ≤ load.clock
+  pub cpu : 1 ≤ load.cpu
+  pub shift : load.shift ≤ 31
   pub writers : length load.scripts ≤ 16
   pub steps : steps_in load ≤ 1048576
   pub starts : starts_in load ≤ 256

@@ -1,6 +1,7 @@
 -- The scripts of the writers as they grow: steps go to the writer that was named last.
-use Rattle.std.specs.Prelude.{◌≡◌, ℕ, ◌≤◌, ◌*◌, List, [], ◌∷◌, ◌++◌, length, sum_by, All}
+use Rattle.std.specs.Prelude.{◌≡◌, ℕ, ◌+◌, ◌<◌, ◌≤◌, ◌*◌, List, [], ◌∷◌, ◌++◌, length, sum_by, All}
 use Rattle.sv_workload.specs.declared.load.Step.{Step}
+use Rattle.sv_workload.specs.declared.load.Need.{Need}
 use Rattle.sv_workload.specs.Need.{act_bytes, is_start_act, one_if, IsStepAct}
 
 -- one more step for the last script
@@ -22,5 +23,17 @@ pub record AreCounted (scripts : List (List Step)) (steps starts bytes : ℕ) : 
   pub few_starts : starts ≤ 256
   pub bytes_is : bytes ≡ over_scripts (λ s. act_bytes s.act) scripts
   pub small : bytes ≤ 153 * steps
+  pub advances : All (λ script. All (λ s. s.advance ≤ 8589934592) script) scripts
+  pub acts : All (λ script. All (λ s. IsStepAct s.act) script) scripts
+
+-- what these scripts need where nothing but so many tasks is described, and what a workload asks of them
+pub record NeedOf (scripts : List (List Step)) (tasks : ℕ) (need : Need) : Type 0 where
+  pub items : need.items ≡ 3 * over_scripts (λ s. 1) scripts + over_scripts (λ s. one_if (is_start_act s.act)) scripts * (2 + 2 * (4 + 2 * tasks))
+  pub bytes : need.bytes ≡ 16 + over_scripts (λ s. act_bytes s.act) scripts + over_scripts (λ s. one_if (is_start_act s.act)) scripts * (27 + 156 * (4 + 2 * tasks))
+  pub few : need.items < 3400000
+  pub short : need.bytes < 181000000
+  pub writers : length scripts ≤ 16
+  pub steps : over_scripts (λ s. 1) scripts ≤ 1048576
+  pub starts : over_scripts (λ s. one_if (is_start_act s.act)) scripts ≤ 256
   pub advances : All (λ script. All (λ s. s.advance ≤ 8589934592) script) scripts
   pub acts : All (λ script. All (λ s. IsStepAct s.act) script) scripts

@@ -1,6 +1,6 @@
 ghost use Rattle.std.specs.Prelude.{◌≡◌, ◌≤◌, [], false};
 
-use crate::load::{Action, Task};
+use crate::load::{Action, Need, Task, Workload};
 use crate::scripts::Scripts;
 use crate::settings::Settings;
 use std::alloc::Global;
@@ -28,6 +28,8 @@ impl Model for Draft {
 
 impl Draft {
     ghost use Rattle.sv_workload.specs.Settings.{nothing_told};
+    ghost use Rattle.sv_workload.specs.Need.{HasNeed};
+    ghost use Rattle.sv_workload.specs.Draft.{load_by};
 
     /// No line is read yet.
     pub fn new(alloc: Global) -> Draft
@@ -40,5 +42,28 @@ impl Draft {
             scheduled: false,
             schedule: Vec::new(alloc),
         }
+    }
+
+    /// How many items and bytes a journal of the workload and its stream have at most.
+    fn need(&self) -> Need
+        ensures { HasNeed (load_by self.now) result }
+    {
+        self.scripts.need(self.tasks.len() as u64)
+    }
+
+    /// The workload that was told.
+    pub fn into_workload(self, alloc: Global) -> Workload
+        ensures { result ≡ load_by self }
+    {
+        let need = self.need();
+        Workload::of(
+            alloc,
+            self.settings,
+            self.tasks,
+            self.scripts.into_writers(),
+            self.scheduled,
+            self.schedule,
+            need,
+        )
     }
 }

@@ -1,8 +1,10 @@
-ghost use Rattle.std.specs.Prelude.{◌≡◌, ◌<◌, length, IfOk};
+ghost use Rattle.std.specs.Prelude.{◌≡◌, ◌<◌, ◌≤◌, length, map, IfOk};
 ghost use Rattle.sv_workload.specs.Load.{script_of};
 ghost use Rattle.sv_workload.specs.Need.{need_items, need_bytes, IsWithinLimits, HasNeed};
 ghost use Rattle.sv_workload.specs.Form.{one_writer};
+ghost use Rattle.sv_workload.specs.Draft.{load_by};
 
+use crate::settings::Settings;
 use std::alloc::Global;
 use std::marker::Model;
 use sv_packet::Event;
@@ -122,23 +124,58 @@ impl Workload {
         })
     }
 
-    /// The size of the up ring.
+    /// A workload of all that can be told by now: no lines, modules or commands.
+    pub fn of(
+        alloc: Global,
+        settings: Settings,
+        tasks: Vec<Task>,
+        writers: Vec<Vec<Step>>,
+        scheduled: bool,
+        schedule: Vec<Action>,
+        need: Need,
+    ) -> Workload
+        requires { HasNeed (load_by (record { settings = settings; tasks = tasks.items; scripts = map (λ script. script.items) writers.items; scheduled = scheduled; schedule = schedule.items })) need }
+        ensures { result ≡ load_by (record { settings = settings; tasks = tasks.items; scripts = map (λ script. script.items) writers.items; scheduled = scheduled; schedule = schedule.items }) }
+    {
+        Workload {
+            ring: settings.ring(),
+            clock: settings.clock(),
+            cpu: settings.cpu(),
+            base: settings.base(),
+            shift: settings.shift(),
+            timed: false,
+            lines: Vec::new(alloc),
+            tasks,
+            modules: Vec::new(alloc),
+            commands: Vec::new(alloc),
+            writers,
+            scheduled,
+            schedule,
+            need,
+        }
+    }
+
+    /// The size of the up ring, from 64 to 65536 bytes.
     pub fn ring(&self) -> u32
-        ensures { result ≡ self.now.ring }
+        ensures told { result ≡ self.now.ring }
+        ensures least { 64 ≤ result }
+        ensures most { result ≤ 65536 }
     {
         self.ring
     }
 
-    /// The frequency of the system.
+    /// The frequency of the system, at least 1.
     pub fn clock(&self) -> u32
-        ensures { result ≡ self.now.clock }
+        ensures told { result ≡ self.now.clock }
+        ensures least { 1 ≤ result }
     {
         self.clock
     }
 
-    /// The frequency of the processor.
+    /// The frequency of the processor, at least 1.
     pub fn cpu(&self) -> u32
-        ensures { result ≡ self.now.cpu }
+        ensures told { result ≡ self.now.cpu }
+        ensures least { 1 ≤ result }
     {
         self.cpu
     }
@@ -150,9 +187,10 @@ impl Workload {
         self.base
     }
 
-    /// By how many bits identifiers are shortened.
+    /// By how many bits identifiers are shortened, from 0 to 31.
     pub fn shift(&self) -> u32
-        ensures { result ≡ self.now.shift }
+        ensures told { result ≡ self.now.shift }
+        ensures most { result ≤ 31 }
     {
         self.shift
     }

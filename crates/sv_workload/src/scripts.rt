@@ -1,9 +1,9 @@
 ghost use Rattle.std.specs.Prelude.{◌≡◌, ◌+◌, ◌<◌, ◌≤◌, ◌∷◌, ◌++◌, [], length, map, OnOk, OnErr};
 ghost use Rattle.sv_packet.specs.Spelling.{spelling_of, IsRecordable};
 ghost use Rattle.sv_workload.specs.Need.{act_bytes, one_if, is_start_act, IsStepAct};
-ghost use Rattle.sv_workload.specs.Scripts.{over_scripts, onto_last};
+ghost use Rattle.sv_workload.specs.Scripts.{over_scripts, onto_last, NeedOf};
 
-use crate::load::{Act, Step};
+use crate::load::{Act, Need, Step};
 use std::alloc::Global;
 use std::marker::Model;
 use sv_packet::{Event, encode};
@@ -151,5 +151,24 @@ impl Scripts {
         self.starts = starts;
         self.bytes = bytes;
         Ok(())
+    }
+
+    /// How many items and bytes a journal of these scripts and its stream have at most, beside so many tasks.
+    pub fn need(&self, tasks: u64) -> Need
+        requires few { tasks ≤ 32 }
+        ensures { NeedOf self.now tasks result }
+    {
+        let replies = 4 + 2 * tasks;
+        Need {
+            items: 3 * self.steps + self.starts * (2 + 2 * replies),
+            bytes: 16 + self.bytes + self.starts * (27 + 156 * replies),
+        }
+    }
+
+    /// The scripts alone.
+    pub fn into_writers(self) -> Vec<Vec<Step>>
+        ensures { map (λ script. script.items) result.items ≡ self }
+    {
+        self.writers
     }
 }

@@ -11,7 +11,7 @@ pub struct Settings {
 }
 
 impl Settings {
-    ghost use Rattle.sv_workload.specs.Settings.{nothing_told, base_told, shift_told};
+    ghost use Rattle.sv_workload.specs.Settings.{nothing_told, ring_told, clock_told, cpu_told, base_told, shift_told};
 
     /// Nothing is told yet.
     pub fn new() -> Settings
@@ -24,6 +24,27 @@ impl Settings {
             base: None,
             shift: None,
         }
+    }
+
+    /// The size of the up ring.
+    pub fn ring(&self) -> u32
+        ensures { result ≡ ring_told self.now }
+    {
+        self.ring.unwrap_or(1024)
+    }
+
+    /// The frequency of the system.
+    pub fn clock(&self) -> u32
+        ensures { result ≡ clock_told self.now }
+    {
+        self.clock.unwrap_or(1000000)
+    }
+
+    /// The frequency of the processor.
+    pub fn cpu(&self) -> u32
+        ensures { result ≡ cpu_told self.now }
+    {
+        self.cpu.unwrap_or(1000000)
     }
 
     /// What identifiers are counted from.

@@ -1,26 +1,21 @@
 -- What came of a file is the answer over it.
-use Rattle.std.proofs.Common.{◌≡◌, ℕ, ◌+◌, ◌^◌, ◌<◌, ◌≤◌, List, [], ◌++◌, length, Option, Some, None, Result, Ok, Err, refl, sym, ap, ◌∙◌, subst, arith, append-nil, length-append, replicate, inl, inr}
+use Rattle.std.proofs.Common.{◌≡◌, ℕ, ◌^◌, ◌<◌, ◌≤◌, List, [], ◌++◌, length, Option, Some, None, Result, Ok, Err, refl, sym, ap, ◌∙◌, subst, arith, append-nil, length-append, inl, inr}
 use Rattle.std.specs.Prelude.{IfSome, IfOk, ◌⊎◌}
-use Rattle.std.proofs.lemmas.List.{length-replicate}
-use Rattle.std.specs.Io.KnownBytes.{Appends, Consumes, IsAtEnd}
+use Rattle.std.specs.Io.KnownBytes.{Consumes, IsAtEnd}
 use Rattle.sv_prim.specs.declared.got.Reason.{Reason}
 use Rattle.sv_base.specs.Streams.{ConsumesMore}
-use Rattle.sv_packet.specs.declared.event.Packet.{Packet}
 use Rattle.sv_packet.specs.Packet.{IsPacket}
-use Rattle.sv_packet.specs.Time.{timed}
 use Rattle.sv_stream.specs.declared.end.End.{End}
 use Rattle.sv_stream.specs.declared.end.End.TheVariants as ends
 use Rattle.sv_stream.specs.Decoding.{IsDamaged}
 use Rattle.sv_packet.specs.Reason.{packet_reason}
 use Rattle.sv_stream.specs.Reads.{Reads}
 use Rattle.sv_stream.proofs.Growing.{damage_stays}
-use Rattle.sv_report.specs.Ends.{number_of}
 use Rattle.sv_cli.specs.declared.status.Status.{Status}
-use Rattle.sv_cli.specs.declared.status.Status.TheVariants.{Done, Usage, ReadFault, WriteFault, Damaged, Truncated, NoSync, TooLong, NoMemory, Unbuilt}
+use Rattle.sv_cli.specs.declared.status.Status.TheVariants.{Done, Usage, ReadFault, WriteFault, Damaged, Truncated, NoSync, Workload, TooLong, NoMemory, Unbuilt}
 use Rattle.sv_cli.specs.declared.telling.Kind.{Kind}
 use Rattle.sv_cli.specs.Answer.{IsWhole, IsCutOff, IsCutWithin, Answers}
 use Rattle.sv_cli.specs.Shown.{IsCut, IsCutAt, IsCutIn, IsAllTold, status_for}
-use Rattle.sv_cli.specs.Texts.{lines_for, text_for}
 use Rattle.sv_cli.proofs.Parts.{nothing}
 
 pub if_ok : {T E : Type 0} {P Q : T → Type 0} (r : Result T E) → ((x : T) → P x → Q x) → IfOk r P → IfOk r Q
@@ -106,6 +101,7 @@ module _ (kind : Kind) (file : List ℕ) (left out0 out : Option (List ℕ)) whe
   answer_cut (Damaged place reason) cut = absurd cut
   answer_cut (Truncated held) cut = absurd cut
   answer_cut NoSync cut = absurd cut
+  answer_cut (Workload line reason) cut = absurd cut
   answer_cut (Unbuilt place) cut = absurd cut
   answer_cut Usage cut = absurd cut
 

@@ -6,6 +6,8 @@ pub mod Alone
 pub mod Stopped
 pub mod NotStopped
 pub mod Narrow
+pub mod Rings
+pub mod Runnable
 pub mod Playing
 pub mod Keywords
 pub mod Given

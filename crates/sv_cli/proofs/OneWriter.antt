@@ -21,6 +21,7 @@ use Rattle.sv_recorder.specs.Legal.{IsLegal, IsWhole, IsNextItem, EachItem, owes
 use Rattle.sv_recorder.specs.Stream.{stream_of}
 use Rattle.sv_recorder.specs.Section.{IsSection}
 use Rattle.sv_recorder.specs.Kept.{Keeps}
+use Rattle.sv_recorder.proofs.Fresh.{one_script}
 use Rattle.sv_recorder.proofs.Steps.{latest_first-push, each-push, IsLegal-open}
 use Rattle.sv_cli.specs.Order.{Turn, Takes_step, Reads_all, is_step, is_send, count_up, round_of, order_of}
 use Rattle.sv_cli.specs.Turns.{StepTurn, has_command, turn_at, step_turns}
@@ -615,11 +616,6 @@ pub under_way-kept : (load : Load) (before after : List Item) (sent sent_after :
     → IsUnderWay load after (done + 1)
 under_way-kept load before after sent sent_after freed freed_after done on on_after pending pending_after last last_after u old new s read all =
     under_way-more load before after done freed u (IsLegal-open load before old.opened) (IsLegal-open load after new.opened) s (read ∙ ap length old.sent_is) all
-
-one_script : (scripts : List (List Step)) → length scripts ≡ 1 → scripts ≡ slice_index_or scripts 0 [] ∷ []
-one_script [] h = absurd (omega arith)
-one_script (s ∷ []) h = refl
-one_script (s ∷ t ∷ ss) h = absurd (omega (arith, h))
 
 -- behind as many sections as the only script has steps, the journal is that of the simulation
 pub simulated-end : (load : Load) (items : List Item) (done : ℕ) → length load.scripts ≡ 1 → length load.schedule ≡ 0 → length load.commands ≡ 0

@@ -1,11 +1,9 @@
 -- The loop of a simulation: a step of the one writer, and then everything that was stored is read.
-use Rattle.std.proofs.Common.{◌≡◌, ℕ, ◌+◌, ◌-◌, ◌<◌, ◌≤◌, cond, None, List, [], ◌∷◌, ◌++◌, length, All, refl, sym, ap, ◌∙◌, subst, arith}
+use Rattle.std.proofs.Common.{◌≡◌, ℕ, ◌+◌, ◌-◌, ◌<◌, ◌≤◌, true, cond, None, List, [], ◌∷◌, ◌++◌, length, All, refl, sym, ap, ◌∙◌, subst, arith}
 use Rattle.std.specs.Prelude.{count_by}
 use Rattle.std.proofs.lemmas.List.{reverse-append}
 use Rattle.std.proofs.lemmas.List.Sums.{sum_by-cons, sum_by-append}
 use Rattle.sv_ring.specs.Ring.{Still}
-use Rattle.sv_workload.specs.declared.load.Step.{Step}
-use Rattle.sv_workload.specs.Form.{one_writer}
 use Rattle.sv_workload.specs.Load.{Load, script_of}
 use Rattle.sv_recorder.specs.declared.journal.Item.{Item}
 use Rattle.sv_recorder.specs.Items.{latest_first, is_call_of}
@@ -15,7 +13,9 @@ use Rattle.sv_recorder.specs.Recording.{Recording}
 use Rattle.sv_recorder.specs.Section.{IsSection}
 use Rattle.sv_recorder.specs.Stream.{stream_of}
 use Rattle.sv_recorder.proofs.Scripts.{calls_within}
+use Rattle.sv_cli.specs.Built.{is_built}
 use Rattle.sv_cli.specs.Simulated.{IsSimulated}
+use Rattle.sv_cli.proofs.Runnable.{runs}
 use Rattle.sv_cli.proofs.OneWriter.{IsUnderWay, under_way-none, under_way-more, simulated-end}
 
 -- the steps of the one writer that were taken
@@ -30,9 +30,6 @@ pub record IsBetween (load : Load) (recorder : Recording) : Type 0 where
   pub way : IsUnderWay recorder.load recorder.items (taken_of recorder.items)
   pub read : recorder.freed ≡ length recorder.sent
   pub still : recorder.way ≡ Still
-
-pub plain_one : (load : Load) (steps : List Step) → load ≡ one_writer steps → IsPlain load
-plain_one load steps e = subst IsPlain (sym e) (record { timed = refl; lines = refl; tasks = refl; modules = refl; commands = refl; script = steps; scripts = refl })
 
 -- NO MORE STEPS ARE TAKEN THAN ARE THERE
 
@@ -109,11 +106,13 @@ module _ (load : Load) (before stepped after : Recording) (b : IsBetween load be
       omega (arith, most, script, one_more_taken)
 
 -- behind the last step the journal is that of the simulation
-pub between-end : (load : Load) (recorder after : Recording) (steps : List Step) → load ≡ one_writer steps → IsBetween load recorder → after ≡ recorder
+pub between-end : (load : Load) (recorder after : Recording) → is_built load ≡ true → IsPlain load → IsBetween load recorder → after ≡ recorder
     → taken_of recorder.items ≡ length (script_of recorder.load 0) → IsSimulated after.load after.items
-between-end load recorder after steps one b same through =
-    let is : recorder.load ≡ one_writer steps = b.same ∙ one in
+between-end load recorder after built plain b same through =
+    let one = runs load built in
+    let is : recorder.load ≡ load = b.same in
     subst (λ (r : Recording). IsSimulated r.load r.items) (sym same)
     (simulated-end recorder.load recorder.items (taken_of recorder.items)
-    (ap (λ (l : Load). length l.scripts) is) (ap (λ (l : Load). length l.schedule) is) (ap (λ (l : Load). length l.commands) is)
+    (ap (λ (l : Load). length l.scripts) is ∙ one.writers) (ap (λ (l : Load). length l.schedule) is ∙ one.schedule)
+    (ap (λ (l : Load). length l.commands) is ∙ ap length plain.commands)
     b.legal b.way through)

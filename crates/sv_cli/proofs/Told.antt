@@ -1,13 +1,12 @@
 -- One piece of a file more, and what came of it.
-use Rattle.std.proofs.Common.{◌≡◌, ℕ, ◌+◌, ◌<◌, ◌≤◌, ◌^◌, Bool, true, false, ◌||◌, List, [], ◌∷◌, ◌++◌, length, take, Option, Some, None, refl, sym, ap, ◌∙◌, subst, arith, append_assoc, append-nil, length-append, inl, inr}
-use Rattle.std.specs.Prelude.{flat_map, ◌⊎◌}
+use Rattle.std.proofs.Common.{◌≡◌, ℕ, ◌+◌, ◌<◌, Bool, true, false, List, [], ◌∷◌, ◌++◌, length, take, Option, Some, None, refl, sym, ap, ◌∙◌, subst, arith, append_assoc, append-nil, length-append, inl, inr}
+use Rattle.std.specs.Prelude.{◌⊎◌}
 use Rattle.std.proofs.lemmas.List.{length-take}
 use Rattle.std.proofs.lemmas.List.Concat.{flat_map-append}
 use Rattle.std.specs.Io.KnownBytes.{Appends, Consumes, IsAtEnd}
-use Rattle.sv_prim.specs.declared.got.Reason.{Reason}
 use Rattle.sv_prim.proofs.Below.{bytes_both}
 use Rattle.sv_prim.specs.Text.{AreBytes}
-use Rattle.sv_base.specs.Streams.{AppendsPart, ConsumesMore}
+use Rattle.sv_base.specs.Streams.{AppendsPart}
 use Rattle.sv_base.proofs.Reading.{Consumes-then}
 use Rattle.sv_base.proofs.Writing.{Appends-then}
 use Rattle.sv_packet.specs.declared.event.Packet.{Packet}
@@ -26,7 +25,7 @@ use Rattle.sv_stream.proofs.Packets.{readable}
 use Rattle.sv_stream.proofs.Standing.{stands_first}
 use Rattle.sv_cli.specs.declared.showing.Showing.{Showing}
 use Rattle.sv_cli.specs.declared.status.Status.{Status}
-use Rattle.sv_cli.specs.declared.status.Status.TheVariants.{Done, Usage, ReadFault, WriteFault, Damaged, Truncated, NoSync, TooLong, NoMemory, Unbuilt}
+use Rattle.sv_cli.specs.declared.status.Status.TheVariants.{Done, Usage, ReadFault, WriteFault, Damaged, Truncated, NoSync, Workload, TooLong, NoMemory, Unbuilt}
 use Rattle.sv_cli.specs.declared.telling.Kind.{Kind}
 use Rattle.sv_cli.specs.Reading.{IsUnfed}
 use Rattle.sv_cli.specs.declared.telling.Teller.{Teller}
@@ -258,6 +257,7 @@ cut_by kind left0 left left_now out0 out showing WriteFault told sound unfed = a
 cut_by kind left0 left left_now out0 out showing (Damaged place reason) told sound unfed = absurd unfed
 cut_by kind left0 left left_now out0 out showing (Truncated held) told sound unfed = absurd unfed
 cut_by kind left0 left left_now out0 out showing NoSync told sound unfed = absurd unfed
+cut_by kind left0 left left_now out0 out showing (Workload line reason) told sound unfed = absurd unfed
 cut_by kind left0 left left_now out0 out showing (Unbuilt place) told sound unfed = absurd unfed
 cut_by kind left0 left left_now out0 out showing Usage told sound unfed = absurd unfed
 

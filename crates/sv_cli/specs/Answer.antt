@@ -12,7 +12,7 @@ use Rattle.sv_stream.specs.Decoding.{IsDamaged}
 use Rattle.sv_stream.specs.Reads.{Reads}
 use Rattle.sv_report.specs.Ends.{number_of}
 use Rattle.sv_cli.specs.declared.status.Status.{Status}
-use Rattle.sv_cli.specs.declared.status.Status.TheVariants.{Done, Usage, ReadFault, WriteFault, Damaged, Truncated, NoSync, TooLong, NoMemory, Unbuilt}
+use Rattle.sv_cli.specs.declared.status.Status.TheVariants.{Done, Usage, ReadFault, WriteFault, Damaged, Truncated, NoSync, Workload, TooLong, NoMemory, Unbuilt}
 use Rattle.sv_cli.specs.declared.telling.Kind.{Kind}
 use Rattle.sv_cli.specs.Texts.{lines_for, text_for}
 
@@ -53,5 +53,6 @@ Answers kind file old new ReadFault = IsCutOff kind file old new
 Answers kind file old new (TooLong limit) = (limit ≡ 2 ^ 33) × (2 ^ 33 < length file) × IsCutOff kind file old new
 Answers kind file old new WriteFault = IsCutWithin kind file old new
 Answers kind file old new NoMemory = IsCutWithin kind file old new
+Answers kind file old new (Workload line reason) = ⊥
 Answers kind file old new (Unbuilt place) = ⊥
 Answers kind file old new Usage = ⊥

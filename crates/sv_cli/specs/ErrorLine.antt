@@ -5,7 +5,7 @@ use Rattle.std.specs.Io.KnownBytes.{Appends}
 use Rattle.sv_base.specs.Causes.{Rose}
 use Rattle.sv_base.specs.Streams.{AppendsPart}
 use Rattle.sv_cli.specs.declared.status.Status.{Status}
-use Rattle.sv_cli.specs.declared.status.Status.TheVariants.{Done, Usage, ReadFault, WriteFault, Damaged, Truncated, NoSync, TooLong, NoMemory, Unbuilt}
+use Rattle.sv_cli.specs.declared.status.Status.TheVariants.{Done, Usage, ReadFault, WriteFault, Damaged, Truncated, NoSync, Workload, TooLong, NoMemory, Unbuilt}
 
 -- one line for each status but Done
 abbrev pub error_line : Status → List ℕ
@@ -16,6 +16,7 @@ error_line WriteFault = codes "write fault\n"
 error_line (Damaged place reason) = codes "damaged at " ++ (decimal place ++ (codes " reason " ++ (decimal reason ++ codes "\n")))
 error_line (Truncated held) = codes "truncated, held " ++ (decimal held ++ codes "\n")
 error_line NoSync = codes "no sync\n"
+error_line (Workload line reason) = codes "workload line " ++ (decimal line ++ (codes " reason " ++ (decimal reason ++ codes "\n")))
 error_line (TooLong limit) = codes "longer than " ++ (decimal limit ++ codes "\n")
 error_line NoMemory = codes "no memory\n"
 error_line (Unbuilt place) = codes "not built at " ++ (decimal place ++ codes "\n")

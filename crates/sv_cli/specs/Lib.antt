@@ -4,6 +4,7 @@ pub mod ErrorLine
 pub mod Turns
 pub mod Order
 pub mod Simulated
+pub mod Built
 pub mod Recorded
 pub mod Texts
 pub mod Telling

@@ -1,5 +1,5 @@
 -- How far a file is shown, and what came of it.
-use Rattle.std.specs.Prelude.{◌≡◌, ℕ, ◌+◌, ◌^◌, ◌≤◌, List, [], ◌++◌, ◌⊎◌, length, Option}
+use Rattle.std.specs.Prelude.{◌≡◌, ℕ, ◌+◌, ◌^◌, ◌≤◌, List, [], ◌⊎◌, length, Option}
 use Rattle.std.specs.Io.KnownBytes.{Appends, Consumes, IsAtEnd}
 use Rattle.sv_prim.specs.Text.{AreBytes}
 use Rattle.sv_base.specs.Streams.{AppendsPart, ConsumesMore}
@@ -13,7 +13,7 @@ use Rattle.sv_stream.specs.Reads.{Reads}
 use Rattle.sv_report.specs.Ends.{number_of}
 use Rattle.sv_cli.specs.declared.showing.Showing.{Showing}
 use Rattle.sv_cli.specs.declared.status.Status.{Status}
-use Rattle.sv_cli.specs.declared.status.Status.TheVariants.{Done, Usage, ReadFault, WriteFault, Damaged, Truncated, NoSync, TooLong, NoMemory, Unbuilt}
+use Rattle.sv_cli.specs.declared.status.Status.TheVariants.{Done, Usage, ReadFault, WriteFault, Damaged, Truncated, NoSync, Workload, TooLong, NoMemory, Unbuilt}
 use Rattle.sv_cli.specs.declared.telling.Kind.{Kind}
 use Rattle.sv_cli.specs.Texts.{lines_for, last_time, text_for}
 
@@ -74,6 +74,7 @@ IsCut kind left_before left out_before out Done = ⊥
 IsCut kind left_before left out_before out (Damaged place reason) = ⊥
 IsCut kind left_before left out_before out (Truncated held) = ⊥
 IsCut kind left_before left out_before out NoSync = ⊥
+IsCut kind left_before left out_before out (Workload line reason) = ⊥
 IsCut kind left_before left out_before out (Unbuilt place) = ⊥
 IsCut kind left_before left out_before out Usage = ⊥
 

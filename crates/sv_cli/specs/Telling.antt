@@ -1,5 +1,5 @@
 -- How far a file is told.
-use Rattle.std.specs.Prelude.{◌≡◌, ℕ, ◌+◌, ◌^◌, ◌<◌, ◌≤◌, Bool, true, false, List, ◌++◌, ◌⊎◌, length, take, Option}
+use Rattle.std.specs.Prelude.{◌≡◌, ℕ, ◌+◌, ◌^◌, ◌<◌, ◌≤◌, Bool, true, false, List, ◌++◌, length, take, Option}
 use Rattle.std.specs.Io.KnownBytes.{Consumes, IsAtEnd}
 use Rattle.sv_prim.specs.Text.{AreBytes}
 use Rattle.sv_packet.specs.declared.event.Packet.{Packet}
@@ -8,7 +8,6 @@ use Rattle.sv_packet.specs.Time.{timed}
 use Rattle.sv_stream.specs.declared.end.End.{End}
 use Rattle.sv_stream.specs.Decoding.{Decoding, StandsFor, IsSettled, IsDamaged, pushed}
 use Rattle.sv_stream.specs.Reads.{Reads}
-use Rattle.sv_cli.specs.declared.telling.Kind.{Kind}
 use Rattle.sv_cli.specs.declared.telling.Teller.{Teller}
 use Rattle.sv_cli.specs.Texts.{lines_for, last_time}
 

@@ -30,12 +30,13 @@ fn numbered(text: &str, number: u64) -> Line
     line
 }
 
-fn damaged(place: u64, reason: u8) -> Line
-    ensures { result.bytes ≡ codes "damaged at "
-        ++ (decimal place ++ (codes " reason " ++ (decimal reason ++ codes "\n"))) }
+fn reasoned(text: &str, number: u64, reason: u8) -> Line
+    requires { length text.now ≤ 200 }
+    ensures { result.bytes ≡ text.now
+        ++ (decimal number ++ (codes " reason " ++ (decimal reason ++ codes "\n"))) }
 {
-    let mut line = words("damaged at ");
-    line.push_str(Buffer::new().format(place));
+    let mut line = words(text);
+    line.push_str(Buffer::new().format(number));
     line.push_str(" reason ");
     line.push_str(Buffer::new().format(reason));
     line.push_str("\n");
@@ -51,9 +52,10 @@ fn line_of(status: &Status) -> Line
         Status::Usage => words("usage: sysview events F | check F | record W\n"),
         Status::ReadFault => words("read fault\n"),
         Status::WriteFault => words("write fault\n"),
-        Status::Damaged { place, reason } => damaged(*place, *reason),
+        Status::Damaged { place, reason } => reasoned("damaged at ", *place, *reason),
         Status::Truncated { held } => numbered("truncated, held ", *held),
         Status::NoSync => words("no sync\n"),
+        Status::Workload { line, reason } => reasoned("workload line ", *line, *reason),
         Status::TooLong { limit } => numbered("longer than ", *limit),
         Status::NoMemory => words("no memory\n"),
         Status::Unbuilt { place } => numbered("not built at ", *place),

@@ -1,17 +1,17 @@
 //! The command `record`: the journal and the bytes of a workload's simulation.
-ghost use Rattle.std.specs.Prelude.{◌≡◌, ◌≢◌, ℕ, ◌^◌, ◌≤◌, false, List, [], ◌++◌, length, IfSome, IfOk, OnOk, OnErr};
+ghost use Rattle.std.specs.Prelude.{◌≡◌, ◌≢◌, ℕ, ◌^◌, ◌≤◌, true, false, [], ◌++◌, length, IfSome, IfOk, OnOk, OnErr};
 ghost use Rattle.std.specs.Option.{option_map_or};
 ghost use Rattle.std.specs.Io.KnownBytes.{Appends};
 ghost use Rattle.sv_base.specs.Causes.{Rose, HasCause, one_more};
 ghost use Rattle.sv_base.specs.Streams.{AppendsPart};
 ghost use Rattle.sv_ring.specs.Ring.{Still};
-ghost use Rattle.sv_workload.specs.declared.load.Step.{Step};
-ghost use Rattle.sv_workload.specs.Form.{one_writer};
 ghost use Rattle.sv_workload.specs.Load.{act_of};
 ghost use Rattle.sv_workload.specs.Need.{is_start_act};
 ghost use Rattle.sv_recorder.specs.Items.{is_start as starts};
 ghost use Rattle.sv_recorder.specs.Legal.{IsLegal};
+ghost use Rattle.sv_recorder.specs.Plain.{IsPlain};
 ghost use Rattle.sv_recorder.specs.Stream.{stream_of};
+ghost use Rattle.sv_cli.specs.Built.{is_built as built};
 ghost use Rattle.sv_cli.specs.Recorded.{header, has_start as holds_start, IsRecorded, IsPlayed, IsRunEnd};
 ghost use Rattle.sv_cli.specs.Simulated.{IsSimulated};
 
@@ -77,7 +77,8 @@ fn take_all(recorder: &mut Recorder<'_, PlainRing>)
 
 /// Each step of the one writer in turn, and behind each the host takes everything that is stored.
 fn play(recorder: &mut Recorder<'_, PlainRing>)
-    requires one { (steps : List Step) × (recorder.old.load ≡ one_writer steps) }
+    requires built { built recorder.old.load ≡ true }
+    requires plain { IsPlain recorder.old.load }
     requires items { recorder.old.items ≡ [] }
     requires still { recorder.old.way ≡ Still }
     ensures load { recorder.new.load ≡ recorder.old.load }
@@ -92,7 +93,9 @@ fn play(recorder: &mut Recorder<'_, PlainRing>)
 
 /// The simulation of a workload of one writer: its journal, and the ring with all bytes that were sent.
 fn simulate(alloc: Global, load: &Workload) -> Result<Finished<PlainRing>, NoMemory>
-    requires { (steps : List Step) × (load.now ≡ one_writer steps) }
+    requires built { built load.now ≡ true }
+    requires plain { IsPlain load.now }
+    requires ring { load.now.ring ≤ 65536 }
     ensures simulated { IfOk result (λ run. IsSimulated load.now run.journal.items) }
     ensures sent { IfOk result (λ run. run.up.sent ≡ stream_of load.now run.journal.items) }
 {
@@ -120,7 +123,9 @@ fn record_load<K: Sink>(
     out: &mut K,
     journal: &mut Journal,
 ) -> Status
-    requires one { (steps : List Step) × (load.now ≡ one_writer steps) }
+    requires built { built load.now ≡ true }
+    requires plain { IsPlain load.now }
+    requires ring { load.now.ring ≤ 65536 }
     requires empty { journal.old.items ≡ [] }
     ensures told { IsPlayed load.now (K.written out.old) (K.written out.new) journal.new.items result }
     ensures fault { result ≡ Status.WriteFault → Rose (K.faults out.old) (K.faults out.new) }
@@ -139,6 +144,18 @@ fn record_load<K: Sink>(
     Status::Done
 }
 
+/// Whether what the workload asks for is built: one writer, no tasks, no schedule, and a ring of at
+/// least 1024 bytes.
+fn is_built(load: &Workload) -> bool
+    ensures { result ≡ built load.now }
+{
+    load.writers() == 1
+        && load.tasks().is_empty()
+        && !load.scheduled()
+        && load.schedule().is_empty()
+        && load.ring() >= 1024
+}
+
 /// Records the workload that the text says.
 fn record_text<K: Sink>(alloc: Global, text: &[u8], out: &mut K, journal: &mut Journal) -> Status
     requires short { length text.now ≤ 2 ^ 26 }
@@ -148,11 +165,16 @@ fn record_text<K: Sink>(alloc: Global, text: &[u8], out: &mut K, journal: &mut J
     ensures fault { result ≡ Status.WriteFault → Rose (K.faults out.old) (K.faults out.new) }
     ensures kept { result ≢ Status.WriteFault → K.faults out.new ≡ K.faults out.old }
 {
-    match parse(alloc, text) {
-        Ok(load) => record_load(alloc, &load, out, journal),
-        Err(WorkFault::Unbuilt { place }) => Status::Unbuilt { place },
-        Err(WorkFault::NoMemory) => Status::NoMemory,
+    let load = match parse(alloc, text) {
+        Ok(load) => load,
+        Err(WorkFault::Line { line, reason }) => return Status::Workload { line, reason },
+        Err(WorkFault::NoMemory) => return Status::NoMemory,
+    };
+    if !is_built(&load) {
+        let place = text.len() as u64;
+        return Status::Unbuilt { place };
     }
+    record_load(alloc, &load, out, journal)
 }
 
 /// Records the workload of the name: a line, and the bytes that its simulation sends.

@@ -17,11 +17,15 @@ pub enum Status {
     /// No ten zero bytes in a row stand in the recording, so that nothing in it can be read. Of a
     /// workload: it never starts the recorder.
     NoSync,
+    /// The text is no workload: the line `line`, counted from 1, is the first with a fault, and
+    /// `reason` is the fault's number, from 1 to 10.
+    Workload { line: u64, reason: u8 },
     /// The file has more bytes than the limit.
     TooLong { limit: u64 },
     /// Memory was not to be had.
     NoMemory,
-    /// The file is of a form that is not built yet: `place` is the offset, in bytes, of what is not.
+    /// The workload is of a kind that is not built yet. `place` is the offset, in bytes, of the end
+    /// of its text, all of which is read.
     Unbuilt { place: u64 },
 }
 
@@ -41,6 +45,7 @@ impl Status {
             Status::Damaged { .. } => 5,
             Status::Truncated { .. } => 6,
             Status::NoSync => 7,
+            Status::Workload { .. } => 8,
             Status::TooLong { .. } => 9,
             Status::NoMemory => 10,
             Status::Unbuilt { .. } => 11,

@@ -226,6 +226,11 @@ fn words_and_codes(rt: HostRuntime) -> Result<(), Fail> {
         ),
         (Status::Truncated { held: 2 }, 6, "truncated, held 2\n"),
         (Status::NoSync, 7, "no sync\n"),
+        (
+            Status::Workload { line: 1, reason: 3 },
+            8,
+            "workload line 1 reason 3\n",
+        ),
         (Status::NoMemory, 10, "no memory\n"),
         (Status::Unbuilt { place: 12 }, 11, "not built at 12\n"),
     ] {
@@ -242,7 +247,7 @@ fn record_of(alloc: Global, text: &str) -> Result<Answered, Fail> {
     run(alloc, &["record", "f"], text.as_bytes(), &[], &[])
 }
 
-/// The bytes of a start in a ring of 1024 bytes, at this delta from the latest packet.
+/// The bytes of a start, at this delta from the latest packet.
 fn started(alloc: Global, delta: u8, more: &[u8]) -> Result<Vec<u8>, Fail> {
     let mut bytes = synced(alloc, &[0x0a, delta])?;
     bytes.extend_from_slice(&[0x18, 0x0c, 0xc0, 0x84, 0x3d, 0xc0, 0x84, 0x3d])?;
@@ -271,9 +276,24 @@ fn recordings(rt: HostRuntime) -> Result<(), Fail> {
             )?,
             8,
         ),
+        (
+            "writer\n0 start\n1 ready 536871940\n1 run 536871940\n2 call 40 300 1\n1 return 40 7\n",
+            started(
+                alloc,
+                0,
+                &[
+                    0x06, 0x81, 0x02, 0x01, 0x04, 0x81, 0x02, 0x01, 0x28, 0x03, 0xac, 0x02, 0x01,
+                    0x02, 0x1c, 0x02, 0x28, 0x07, 0x01,
+                ],
+            )?,
+            10,
+        ),
+        ("ring 1024\nwriter\n0 start\n", started(alloc, 0, &[])?, 6),
+        ("ring 65536\nwriter\n0 start\n", started(alloc, 0, &[])?, 6),
+        ("; a remark\n\nwriter\n0 start", started(alloc, 0, &[])?, 6),
     ] {
         let run = record_of(alloc, text)?;
-        assert_eq!(rt; run.status, Status::Done);
+        assert_eq!(rt; run.status, Status::Done, "{text}");
         assert!(rt; run.out.bytes().starts_with(b"; sysview recording\n"));
         assert_eq!(rt; &run.out.bytes()[20..], bytes.as_slice());
         assert_eq!(rt; run.err.bytes(), [].as_slice());
@@ -331,12 +351,55 @@ fn workloads_without_a_recording(rt: HostRuntime) -> Result<(), Fail> {
     let alloc = rt.alloc();
     for (text, status, out, line) in [
         (
-            "writer\n1 ready 4\n",
-            Status::Unbuilt { place: 7 },
+            "ring 63\nwriter\n",
+            Status::Workload { line: 1, reason: 3 },
             "",
-            "not built at 7\n",
+            "workload line 1 reason 3\n",
         ),
+        (
+            "hello",
+            Status::Workload { line: 1, reason: 1 },
+            "",
+            "workload line 1 reason 1\n",
+        ),
+        (
+            "writer\n1 mark 9\n01 mark 9\n",
+            Status::Workload { line: 3, reason: 3 },
+            "",
+            "workload line 3 reason 3\n",
+        ),
+        // What is of the language and not built is told at the end of the text.
         ("", Status::Unbuilt { place: 0 }, "", "not built at 0\n"),
+        (
+            "ring 64\nwriter\n",
+            Status::Unbuilt { place: 15 },
+            "",
+            "not built at 15\n",
+        ),
+        (
+            "ring 1023\nwriter\n",
+            Status::Unbuilt { place: 17 },
+            "",
+            "not built at 17\n",
+        ),
+        (
+            "task 536870916 1 2 3 4 Main\nwriter\n",
+            Status::Unbuilt { place: 35 },
+            "",
+            "not built at 35\n",
+        ),
+        (
+            "writer\nwriter\n",
+            Status::Unbuilt { place: 14 },
+            "",
+            "not built at 14\n",
+        ),
+        (
+            "writer\nschedule\n",
+            Status::Unbuilt { place: 16 },
+            "",
+            "not built at 16\n",
+        ),
         (
             "writer\n",
             Status::NoSync,
@@ -345,7 +408,7 @@ fn workloads_without_a_recording(rt: HostRuntime) -> Result<(), Fail> {
         ),
     ] {
         let run = record_of(alloc, text)?;
-        assert_eq!(rt; run.status, status);
+        assert_eq!(rt; run.status, status, "{text}");
         assert_eq!(rt; run.out.bytes(), out.as_bytes());
         assert_eq!(rt; run.err.bytes(), line.as_bytes());
         assert_eq!(rt; run.journal.items().len(), 0);

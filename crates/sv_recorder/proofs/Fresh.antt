@@ -1,6 +1,9 @@
 -- A recorder that has recorded nothing.
-use Rattle.std.proofs.Common.{◌≡◌, ℕ, ◌<◌, ◌≤◌, ◌^◌, length, ap, false, List, [], refl, sym, subst, arith}
-use Rattle.sv_workload.specs.Form.{IsForm}
+use Rattle.std.proofs.Common.{◌≡◌, ℕ, ◌<◌, ◌≤◌, ◌^◌, length, false, List, [], ◌∷◌, refl, sym, subst, arith}
+use Rattle.std.specs.Prelude.{slice_index_or}
+use Rattle.std.proofs.lemmas.List.{nil_from_length}
+use Rattle.sv_workload.specs.declared.load.Step.{Step}
+use Rattle.sv_workload.specs.Grammar.{SaysNothingOfLater}
 use Rattle.sv_workload.specs.Load.{Load, script_of}
 use Rattle.sv_workload.specs.Need.{IsWithinLimits, need_items, need_bytes}
 use Rattle.sv_recorder.specs.declared.journal.Item.{Item}
@@ -49,18 +52,20 @@ fresh load items sent freed size limit capacity plain limits items_is sent_is fr
     (subst (λ (s : List ℕ). IsRecorder load [] s freed size limit false 0 0 0 0 capacity) (sym sent_is)
     (subst (λ (n : ℕ). IsRecorder load [] [] n size limit false 0 0 0 0 capacity) (sym freed_is) (nothing load size limit capacity plain limits ring bytes few room)))
 
--- a text of the form says a plain workload, whose ring is of 1024 bytes
-pub plain_of : (text : List ℕ) (load : Load) → IsForm text load → IsPlain load × (load.ring ≡ 1024) × (0 < length load.scripts)
-plain_of text load form = (
-  record {
-    timed = ap (λ (l : Load). l.timed) form.all;
-    lines = ap (λ (l : Load). l.lines) form.all;
-    tasks = ap (λ (l : Load). l.tasks) form.all;
-    modules = ap (λ (l : Load). l.modules) form.all;
-    commands = ap (λ (l : Load). l.commands) form.all;
-    script = form.steps;
-    scripts = ap (λ (l : Load). l.scripts) form.all;
-  },
-  ap (λ (l : Load). l.ring) form.all,
-  (let one : length load.scripts ≡ 1 = ap (λ (l : Load). length l.scripts) form.all in omega (arith, one)),
-)
+-- one script is the first one
+pub one_script : (scripts : List (List Step)) → length scripts ≡ 1 → scripts ≡ slice_index_or scripts 0 [] ∷ []
+one_script [] h = absurd (omega arith)
+one_script (s ∷ []) h = refl
+one_script (s ∷ t ∷ ss) h = absurd (omega (arith, h))
+
+-- a workload of one writer is plain, where it has no task and nothing that only words of later would say
+pub plain_of : (load : Load) → SaysNothingOfLater load → length load.scripts ≡ 1 → length load.tasks ≡ 0 → IsPlain load
+plain_of load later one none = record {
+  timed = later.timed;
+  lines = later.lines;
+  tasks = nil_from_length load.tasks none;
+  modules = later.modules;
+  commands = later.commands;
+  script = script_of load 0;
+  scripts = one_script load.scripts one;
+}

@@ -6,7 +6,7 @@ use std::alloc::Global;
 use std::test::*;
 use sv_prim::NoMemory;
 use sv_ring::PlainRing;
-use sv_workload::{WorkFault, Workload, parse};
+use sv_workload::{Workload, parse};
 
 /// What a start alone sends: ten zeros, then TRACE_START, INIT, SYSTIME_CYCLES and NUMMODULES, all at
 /// tick 0, with a clock and a CPU of 1,000,000 Hz, the RAM base 0x20000000 and a shift of 2.
@@ -15,17 +15,20 @@ const START: [u8; 34] = [
     2, 0, 12, 0, 0, 27, 1, 0, 0,
 ];
 
-/// The workload that the text says, which is plain.
-#[tactic(auto, using(crate::proofs::Fresh::plain_of))]
-fn plain(alloc: Global, text: &[u8]) -> Result<Workload, WorkFault>
+/// The workload that the text says, which is plain and has a ring of 1024 bytes.
+fn plain(alloc: Global, text: &[u8]) -> Result<Workload, Fail>
     ensures plain { IfOk result (λ load. IsPlain load) }
     ensures ring { IfOk result (λ load. load.ring ≡ 1024) }
     ensures writer { IfOk result (λ load. 0 < length load.scripts) }
 {
     if text.len() >= 1 << 32 {
-        return Err(WorkFault::NoMemory);
+        return Err(Fail::from("a text of 2^32 bytes"));
     }
-    parse(alloc, text)
+    let load = parse(alloc, text)?;
+    if load.writers() != 1 || !load.tasks().is_empty() || load.ring() != 1024 {
+        return Err(Fail::from("another workload"));
+    }
+    Ok(load)
 }
 
 /// Takes all steps, with a read of 20 bytes behind the step of this number, counted from 1. Gives

@@ -38,7 +38,7 @@ first_capped line numbers e = ap (λ (l : List ℕ). get_or l 0 0) e ∙ first_o
   first_of (n ∷ ns) = refl
 
 -- a number below 2 ^ 32 stays as it is
-capped_low : (n : ℕ) → n < 2 ^ 32 → capped n ≡ n
+pub capped_low : (n : ℕ) → n < 2 ^ 32 → capped n ≡ n
 capped_low n low = let le : n ≤ 2 ^ 32 - 1 = omega arith in min-eq_left le
 
 -- a word in a low range

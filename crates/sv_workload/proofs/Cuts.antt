@@ -10,11 +10,11 @@ use Rattle.sv_workload.specs.Words.{words_of}
 use Rattle.std.proofs.lemmas.Bool.{ltb-true, ltb-false}
 
 -- an option that is made by a test
-none_by : (b : Bool) (n : ℕ) → cond b (Some n) None ≡ None → b ≡ false
+pub none_by : (b : Bool) (n : ℕ) → cond b (Some n) None ≡ None → b ≡ false
 none_by true n e = cc
 none_by false n e = refl
 
-some_by : (b : Bool) (n k : ℕ) → cond b (Some n) None ≡ Some k → (b ≡ true) × (n ≡ k)
+pub some_by : (b : Bool) (n k : ℕ) → cond b (Some n) None ≡ Some k → (b ≡ true) × (n ≡ k)
 some_by true n k e = (refl, cc)
 some_by false n k e = cc
 

@@ -7,7 +7,7 @@ use Rattle.sv_workload.specs.declared.fault.LineFault.{LineFault}
 use Rattle.sv_workload.specs.Grammar.{fault_at, first_fault_behind}
 
 -- what stands behind good lines and one more good line
-one_good : (before : List (List ℕ)) (line : List ℕ) (more : List (List ℕ)) → fault_at before line ≡ None → first_fault_behind before (line ∷ more) ≡ first_fault_behind (before ++ line ∷ []) more
+pub one_good : (before : List (List ℕ)) (line : List ℕ) (more : List (List ℕ)) → fault_at before line ≡ None → first_fault_behind before (line ∷ more) ≡ first_fault_behind (before ++ line ∷ []) more
 one_good before line more good = ap (λ (o : Option LineFault). option_or (option_map (λ fault. (length before + 1, fault)) o) (first_fault_behind (before ++ line ∷ []) more)) good
 
 -- the lines before a place behind one more line

@@ -1,13 +1,13 @@
 -- The lines of a text, one after another.
-use Rattle.std.proofs.Common.{◌≡◌, ℕ, ◌+◌, ◌<◌, ◌≤◌, Bool, ◌==◌, List, [], ◌∷◌, length, take, drop, Some, None, true, false, cond, nat_lt, ◌-◌, refl, ap, sym, subst, ◌∙◌, arith}
+use Rattle.std.proofs.Common.{◌≡◌, ℕ, ◌+◌, ◌<◌, ◌≤◌, Bool, ◌==◌, List, [], ◌∷◌, length, take, drop, Some, None, nat_lt, ◌-◌, refl, ap, sym, subst, ◌∙◌, arith}
 use Rattle.std.specs.Prelude.{position}
 use Rattle.std.specs.List.{slice_split, position_or_len, before_first, after_first}
 use Rattle.std.proofs.lemmas.List.Splits.{slice_split_first, slice_split_none, length-slice_split}
 use Rattle.std.proofs.lemmas.List.Sums.{fails_before_first}
 use Rattle.std.proofs.lemmas.List.{take_rest, drop_all, length-take, length-drop}
 use Rattle.std.proofs.lemmas.Bool.{ltb-true, ltb-false}
-use Rattle.sv_workload.specs.Form.{without_empty_end, lines_of}
-use Rattle.sv_workload.specs.Reading.{IsNext}
+use Rattle.sv_workload.proofs.Cuts.{none_by, some_by}
+use Rattle.sv_workload.specs.Lines.{without_empty_end, lines_of, IsNext}
 
 abbrev is_end : ℕ → Bool
 is_end b = b == 10
@@ -29,15 +29,6 @@ alone (b ∷ text) some = refl
 lines_last : (text : List ℕ) → 0 < length text → length text ≤ position_or_len is_end text → lines_of text ≡ text ∷ []
 lines_last text some far =
     ap without_empty_end (slice_split_none is_end text (λ k d lt. fails_before_first is_end text k d (omega arith))) ∙ alone text some
-
--- an option that is made by a test
-none_by : (b : Bool) (n : ℕ) → cond b (Some n) None ≡ None → b ≡ false
-none_by true n e = cc
-none_by false n e = refl
-
-some_by : (b : Bool) (n k : ℕ) → cond b (Some n) None ≡ Some k → (b ≡ true) × (n ≡ k)
-some_by true n k e = (refl, cc)
-some_by false n k e = cc
 
 pub next_at : (text : List ℕ) (place : ℕ) → position is_end text ≡ Some place → IsNext text (take place text) (take (length text - (place + 1)) (drop (place + 1) text))
 next_at text place e =

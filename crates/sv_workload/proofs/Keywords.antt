@@ -1,8 +1,8 @@
 -- Keywords are told apart by how they are spelled, and lines are counted by them.
 use Rattle.std.proofs.Common.{◌≡◌, ℕ, Bool, true, false, not, cond, List, [], ◌∷◌, ◌++◌, refl, sym, ap, ◌∙◌, arith}
-use Rattle.std.specs.Prelude.{map}
+use Rattle.std.specs.Prelude.{map, find, unwrap_or, bytes_eq, length, ◌==◌, Some}
 use Rattle.std.specs.List.{list_all}
-use Rattle.std.proofs.lemmas.Bool.{and_parts, false_from_ne_true}
+use Rattle.std.proofs.lemmas.Bool.{and_parts, false_from_ne_true, eq-eqb}
 use Rattle.std.proofs.lemmas.List.Sums.{sum_by-cons}
 use Rattle.std.proofs.lemmas.Slice.Eq.{bytes_eq-Decides}
 use Rattle.sv_workload.specs.declared.keyword.SetupWord.TheVariants.{Ring, Clock, Cpu, Base, Shift, Time, Desc, Task, Module, Command}
@@ -10,7 +10,7 @@ use Rattle.sv_workload.specs.declared.keyword.ActWord.TheVariants.{Start, Stop, 
 use Rattle.sv_workload.specs.declared.keyword.TurnWord.TheVariants.{Step, Read, Send}
 use Rattle.sv_workload.specs.declared.keyword.Keyword.{Keyword}
 use Rattle.sv_workload.specs.declared.keyword.Keyword.TheVariants.{Setup, Writer, Act, Schedule, Turn, Unknown}
-use Rattle.sv_workload.specs.Keywords.{step_keywords, spelling, is_same, keyword_among}
+use Rattle.sv_workload.specs.Keywords.{step_keywords, spelling, is_same, keyword_among, of_length}
 use Rattle.sv_workload.specs.Line.{Line}
 use Rattle.sv_workload.specs.Meaning.{says, count}
 use Rattle.sv_workload.specs.Draft.{is_later}
@@ -74,3 +74,19 @@ none_later k later (line ∷ lines) all =
     let rest : count k lines ≡ 0 = none_later k later lines parts.1 in
     let here : cond {A = ℕ} (says k line) 1 0 ≡ 0 = ap (λ (b : Bool). cond {A = ℕ} b 1 0) other in
     omega (arith, sum_by-cons (λ line. cond {A = ℕ} (says k line) 1 0) line lines, here, rest)
+
+-- a word spells no keyword of another length
+pub among_of_length : (keywords : List Keyword) (word : List ℕ) → keyword_among (of_length (length word) keywords) word ≡ keyword_among keywords word
+among_of_length [] word = refl
+among_of_length (k ∷ keywords) word =
+    by (length (spelling k) == length word) refl (bytes_eq (spelling k) word) refl (among_of_length keywords word)
+  where
+    by : (long : Bool) → (length (spelling k) == length word) ≡ long → (same : Bool) → bytes_eq (spelling k) word ≡ same
+        → keyword_among (of_length (length word) keywords) word ≡ keyword_among keywords word
+        → keyword_among (cond long (k ∷ of_length (length word) keywords) (of_length (length word) keywords)) word ≡ unwrap_or (cond same (Some k) (find (λ k. bytes_eq (spelling k) word) keywords)) Unknown
+    by true l true s more = rw s refl
+    by true l false s more = rw s more
+    by false l true s more =
+        let equal : length (spelling k) ≡ length word = ap length ((bytes_eq-Decides (spelling k) word).0 s) in
+        absurd (let n : false ≡ true = sym l ∙ eq-eqb (length (spelling k)) (length word) equal in cc)
+    by false l false s more = more

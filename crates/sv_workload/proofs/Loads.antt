@@ -22,6 +22,18 @@ remarks_alone = record { good = refl; meaning = refl }
 the_plainest : IsWorkload (codes "writer\n0 start\n") (record nothing { scripts = (record { advance = 0; act = act.Start } ∷ []) ∷ [] })
 the_plainest = record { good = refl; meaning = refl }
 
+-- a start and a stop among marks
+marks : IsWorkload (codes "writer\n5 mark 9\n0 start\n2 mark 9\n3 stop\n1 mark 9") (record nothing {
+  scripts = (
+      record { advance = 5; act = act.Event (event.MarkStart 9) }
+      ∷ record { advance = 0; act = act.Start }
+      ∷ record { advance = 2; act = act.Event (event.MarkStart 9) }
+      ∷ record { advance = 3; act = act.Stop }
+      ∷ record { advance = 1; act = act.Event (event.MarkStart 9) }
+      ∷ []) ∷ [];
+})
+marks = record { good = refl; meaning = refl }
+
 -- settings and tasks
 settings : IsWorkload (codes "; all of it\n\nring 65536\nclock 4294967295\ncpu 1\nbase 16\nshift 4\ntask 32 5 0 4294967295 7 the name\ntask 16 0 0 0 0 M\nwriter") (record {
   ring = 65536;

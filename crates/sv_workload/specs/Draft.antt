@@ -1,5 +1,5 @@
 -- A workload in the making: what the lines so far told.
-use Rattle.std.specs.Prelude.{◌≡◌, ◌≤◌, Bool, true, false, not, List, [], length, filter_map}
+use Rattle.std.specs.Prelude.{◌≡◌, ◌≤◌, Bool, true, false, not, List, [], ◌∷◌, ◌++◌, length, filter_map, None}
 use Rattle.std.specs.List.{list_all}
 use Rattle.sv_workload.specs.declared.settings.Settings.{Settings}
 use Rattle.sv_workload.specs.declared.load.Task.{Task}
@@ -16,7 +16,7 @@ use Rattle.sv_workload.specs.Need.{one_if, is_start_act}
 use Rattle.sv_workload.specs.Settings.{ring_told, clock_told, cpu_told, base_told, shift_told, AreInRange}
 use Rattle.sv_workload.specs.Scripts.{over_scripts}
 use Rattle.sv_workload.specs.Meaning.{count, is_there, told, tasks_of, scripts_of, action_of}
-use Rattle.sv_workload.specs.Checks.{is_step, count_of}
+use Rattle.sv_workload.specs.Checks.{is_step, count_of, fault_of}
 
 pub record Draft : Type 0 where
   pub settings : Settings
@@ -25,10 +25,11 @@ pub record Draft : Type 0 where
   pub scheduled : Bool
   pub schedule : List Action
 
--- the settings are of their ranges, and the tasks are few
-pub record IsSound (settings : Settings) (tasks : List Task) : Type 0 where
+-- the settings are of their ranges, and the tasks and writers are few
+pub record IsSound (settings : Settings) (tasks : List Task) (scripts : List (List Step)) : Type 0 where
   pub ranges : AreInRange settings
   pub few_tasks : length tasks ≤ 32
+  pub few_scripts : length scripts ≤ 16
 
 -- words that no line can have yet
 abbrev pub is_later : Keyword → Bool
@@ -53,6 +54,14 @@ pub record Stands (draft : Draft) (lines : List Line) : Type 0 where
   pub scheduled : draft.scheduled ≡ is_there Schedule lines
   pub schedule : draft.schedule ≡ filter_map action_of lines
   pub later : list_all (λ line. not (is_later line.keyword)) lines ≡ true
+
+-- the line has no fault behind the lines that the draft stands for
+abbrev pub IsGoodBehind : Draft → Line → Type 0
+IsGoodBehind draft line = (lines : List Line) × Stands draft lines × (fault_of lines line ≡ None)
+
+-- the draft holds what one more line says
+abbrev pub HasTaken : Draft → Draft → Line → Type 0
+HasTaken old new line = (lines : List Line) → Stands old lines → fault_of lines line ≡ None → Stands new (lines ++ line ∷ [])
 
 -- the workload of a draft
 abbrev pub load_by : Draft → Load

@@ -1,10 +1,11 @@
 -- The language of workloads: what a text says, or its first line that says nothing.
-use Rattle.std.specs.Prelude.{◌≡◌, ℕ, ◌+◌, ◌<◌, take, slice_index_or, not, List, [], ◌∷◌, ◌++◌, length, map, filter, Option, Some, None, option_map, if◌then◌else◌}
+use Rattle.std.specs.Prelude.{◌≡◌, false, ℕ, ◌+◌, ◌<◌, take, slice_index_or, not, List, [], ◌∷◌, ◌++◌, length, map, filter, Option, Some, None, option_map, if◌then◌else◌}
 use Rattle.std.specs.Option.{option_or}
 use Rattle.sv_workload.specs.declared.fault.LineFault.{LineFault}
 use Rattle.sv_workload.specs.Lines.{lines_of, is_remark}
 use Rattle.sv_workload.specs.Line.{Line, line_of}
 use Rattle.sv_workload.specs.Load.{Load}
+use Rattle.sv_workload.specs.Reason.{reason_of}
 use Rattle.sv_workload.specs.Meaning.{load_of}
 use Rattle.sv_workload.specs.Checks.{fault_of}
 
@@ -27,6 +28,10 @@ first_fault_behind before (line ∷ lines) = option_or
 abbrev pub first_fault : List ℕ → Option (ℕ × LineFault)
 first_fault text = first_fault_behind [] (lines_of text)
 
+-- the same, with the fault as its number
+abbrev pub first_reason : List ℕ → Option (ℕ × ℕ)
+first_reason text = option_map (λ found. (found.0, reason_of found.1)) (first_fault text)
+
 -- the text is of the language, and this is what it says
 pub record IsWorkload (text : List ℕ) (load : Load) : Type 0 where
   pub good : first_fault text ≡ None
@@ -37,3 +42,10 @@ pub record IsFirstFault (text : List ℕ) (place : ℕ) (fault : LineFault) : Ty
   pub within : place < length (lines_of text)
   pub here : fault_at (take place (lines_of text)) (slice_index_or (lines_of text) place []) ≡ Some fault
   pub earlier : (k : ℕ) → k < place → fault_at (take k (lines_of text)) (slice_index_or (lines_of text) k []) ≡ None
+
+-- nothing is said that only words of later would say
+pub record SaysNothingOfLater (load : Load) : Type 0 where
+  pub timed : load.timed ≡ false
+  pub lines : load.lines ≡ []
+  pub modules : load.modules ≡ []
+  pub commands : load.commands ≡ []

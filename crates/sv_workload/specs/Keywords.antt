@@ -1,5 +1,5 @@
 -- Keywords: how each is spelled, and which of them can begin a line of which kind.
-use Rattle.std.specs.Prelude.{ℕ, List, [], ◌∷◌, ◌++◌, codes, map, Bool, find, unwrap_or, bytes_eq}
+use Rattle.std.specs.Prelude.{ℕ, List, [], ◌∷◌, ◌++◌, codes, map, Bool, filter, find, length, ◌==◌, unwrap_or, bytes_eq}
 use Rattle.sv_workload.specs.declared.keyword.SetupWord.TheVariants.{Ring, Clock, Cpu, Base, Shift, Time, Desc, Task, Module, Command}
 use Rattle.sv_workload.specs.declared.keyword.ActWord.TheVariants.{Start, Stop, Nop, Isr, IsrExit, Run, Halt, Ready, Unready, Create, Terminate, Mark, MarkEnd, Idle, Sched, Timer, TimerExit, Name, Print, Call, Return}
 use Rattle.sv_workload.specs.declared.keyword.TurnWord.TheVariants.{Step, Read, Send}
@@ -61,3 +61,7 @@ is_same a b = bytes_eq (spelling a) (spelling b)
 -- which of these keywords a word spells
 abbrev pub keyword_among : List Keyword → List ℕ → Keyword
 keyword_among keywords word = unwrap_or (find (λ k. bytes_eq (spelling k) word) keywords) Unknown
+
+-- those of these keywords that have so many letters
+abbrev pub of_length : ℕ → List Keyword → List Keyword
+of_length n keywords = filter (λ k. length (spelling k) == n) keywords

@@ -1,6 +1,5 @@
 pub mod Checks
 pub mod Fit
-pub mod Form
 pub mod Forms
 pub mod Grammar
 pub mod Keywords
@@ -10,7 +9,6 @@ pub mod Load
 pub mod Meaning
 pub mod Need
 pub mod Numbers
-pub mod Reading
 pub mod Reason
 pub mod Words
 pub mod Settings

@@ -1,5 +1,5 @@
 -- Lines: a text is cut at its line feeds.
-use Rattle.std.specs.Prelude.{ℕ, ◌+◌, ◌==◌, Bool, true, List, [], ◌∷◌, length, sum_by}
+use Rattle.std.specs.Prelude.{◌≡◌, ℕ, ◌+◌, ◌<◌, ◌==◌, Bool, true, List, [], ◌∷◌, length, sum_by}
 use Rattle.std.specs.List.{slice_split}
 
 -- behind a last line feed stands no further line
@@ -21,3 +21,9 @@ bytes_of lines = sum_by (λ line. length line + 1) lines
 abbrev pub is_remark : List ℕ → Bool
 is_remark [] = true
 is_remark (b ∷ bytes) = b == 59
+
+-- the first line of a text, and what stands behind it
+pub record IsNext (text line rest : List ℕ) : Type 0 where
+  pub lines : lines_of text ≡ line ∷ lines_of rest
+  pub left : length rest < length text
+  pub whole : 0 < length rest → length line + 1 + length rest ≡ length text

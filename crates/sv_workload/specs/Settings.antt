@@ -1,5 +1,7 @@
 -- The settings that lines told, and what holds where a line doesn't tell one.
-use Rattle.std.specs.Prelude.{ℕ, ◌≤◌, None, unwrap_or}
+use Rattle.std.specs.Prelude.{ℕ, ◌≤◌, Some, None, unwrap_or}
+use Rattle.sv_workload.specs.declared.keyword.SetupWord.{SetupWord}
+use Rattle.sv_workload.specs.declared.keyword.SetupWord.TheVariants.{Ring, Clock, Cpu, Base, Shift}
 use Rattle.sv_workload.specs.declared.settings.Settings.{Settings}
 
 abbrev pub nothing_told : Settings
@@ -27,3 +29,12 @@ pub record AreInRange (settings : Settings) : Type 0 where
   pub clock : 1 ≤ clock_told settings
   pub cpu : 1 ≤ cpu_told settings
   pub shift : shift_told settings ≤ 31
+
+-- one more setting is told; other words tell none
+abbrev pub tell : SetupWord → ℕ → Settings → Settings
+tell Ring n settings = record settings { ring = Some n }
+tell Clock n settings = record settings { clock = Some n }
+tell Cpu n settings = record settings { cpu = Some n }
+tell Base n settings = record settings { base = Some n }
+tell Shift n settings = record settings { shift = Some n }
+tell _ n settings = settings

@@ -23,7 +23,7 @@ impl Model for Draft {
 
     ghost view = { λ d. record { settings = d.settings; tasks = d.tasks.items; scripts = d.scripts; scheduled = d.scheduled; schedule = d.schedule.items } };
 
-    ghost invariant = { λ d. IsSound d.settings d.tasks.items };
+    ghost invariant = { λ d. IsSound d.settings d.tasks.items d.scripts };
 }
 
 impl Draft {
@@ -56,11 +56,12 @@ impl Draft {
         ensures { result ≡ load_by self }
     {
         let need = self.need();
+        let writers = self.scripts.into_writers();
         Workload::of(
             alloc,
             self.settings,
             self.tasks,
-            self.scripts.into_writers(),
+            writers,
             self.scheduled,
             self.schedule,
             need,

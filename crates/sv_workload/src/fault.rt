@@ -6,10 +6,10 @@ use thiserror::Error;
 /// Why a text was not read as a workload.
 #[derive(Clone, Copy, Debug, PartialEq, Eq, Error)]
 pub enum WorkFault {
-    /// The line that begins at this place is the first outside the form that is read.
-    #[error("not built at {place}")]
-    Unbuilt { place: u64 },
-    /// There was no memory for the steps.
+    /// This line, counted from 1, is the first with a fault, and the reason says which (1 to 10).
+    #[error("workload line {line} reason {reason}")]
+    Line { line: u64, reason: u8 },
+    /// There was too little memory for the workload.
     #[error("no memory")]
     NoMemory,
 }

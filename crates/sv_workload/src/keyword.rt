@@ -1,5 +1,5 @@
 ghost use Rattle.std.specs.Prelude.{◌≡◌};
-ghost use Rattle.sv_workload.specs.Keywords.{spelling, keyword_among, step_keywords, other_keywords};
+ghost use Rattle.sv_workload.specs.Keywords.{spelling, keyword_among, of_length, step_keywords, other_keywords};
 
 /// The words that begin a line about the target, its tasks or what the host asks.
 #[derive(Clone, Copy, Debug, PartialEq, Eq)]
@@ -61,42 +61,65 @@ pub enum Keyword {
     Unknown,
 }
 
-const STEP_KEYWORDS: [Keyword; 21] = [
-    Keyword::Act(ActWord::Start),
-    Keyword::Act(ActWord::Stop),
-    Keyword::Act(ActWord::Nop),
-    Keyword::Act(ActWord::Isr),
-    Keyword::Act(ActWord::IsrExit),
-    Keyword::Act(ActWord::Run),
-    Keyword::Act(ActWord::Halt),
-    Keyword::Act(ActWord::Ready),
-    Keyword::Act(ActWord::Unready),
-    Keyword::Act(ActWord::Create),
-    Keyword::Act(ActWord::Terminate),
-    Keyword::Act(ActWord::Mark),
-    Keyword::Act(ActWord::MarkEnd),
-    Keyword::Act(ActWord::Idle),
-    Keyword::Act(ActWord::Sched),
-    Keyword::Act(ActWord::Timer),
-    Keyword::Act(ActWord::TimerExit),
-    Keyword::Act(ActWord::Name),
-    Keyword::Act(ActWord::Print),
-    Keyword::Act(ActWord::Call),
-    Keyword::Act(ActWord::Return),
-];
+/// The keywords behind the ticks of a step that have so many letters.
+fn step_keywords(len: usize) -> &'static [Keyword]
+    ensures { result.now ≡ of_length len step_keywords }
+{
+    match len {
+        3 => &[
+            Keyword::Act(ActWord::Nop),
+            Keyword::Act(ActWord::Isr),
+            Keyword::Act(ActWord::Run),
+        ],
+        4 => &[
+            Keyword::Act(ActWord::Stop),
+            Keyword::Act(ActWord::Halt),
+            Keyword::Act(ActWord::Mark),
+            Keyword::Act(ActWord::Idle),
+            Keyword::Act(ActWord::Name),
+            Keyword::Act(ActWord::Call),
+        ],
+        5 => &[
+            Keyword::Act(ActWord::Start),
+            Keyword::Act(ActWord::Ready),
+            Keyword::Act(ActWord::Sched),
+            Keyword::Act(ActWord::Timer),
+            Keyword::Act(ActWord::Print),
+        ],
+        6 => &[Keyword::Act(ActWord::Create), Keyword::Act(ActWord::Return)],
+        7 => &[Keyword::Act(ActWord::Unready)],
+        8 => &[
+            Keyword::Act(ActWord::IsrExit),
+            Keyword::Act(ActWord::MarkEnd),
+        ],
+        9 => &[Keyword::Act(ActWord::Terminate)],
+        10 => &[Keyword::Act(ActWord::TimerExit)],
+        _ => &[],
+    }
+}
 
-const OTHER_KEYWORDS: [Keyword; 10] = [
-    Keyword::Setup(SetupWord::Ring),
-    Keyword::Setup(SetupWord::Clock),
-    Keyword::Setup(SetupWord::Cpu),
-    Keyword::Setup(SetupWord::Base),
-    Keyword::Setup(SetupWord::Shift),
-    Keyword::Setup(SetupWord::Task),
-    Keyword::Writer,
-    Keyword::Schedule,
-    Keyword::Turn(TurnWord::Step),
-    Keyword::Turn(TurnWord::Read),
-];
+/// The keywords of every other line that have so many letters.
+fn other_keywords(len: usize) -> &'static [Keyword]
+    ensures { result.now ≡ of_length len other_keywords }
+{
+    match len {
+        3 => &[Keyword::Setup(SetupWord::Cpu)],
+        4 => &[
+            Keyword::Setup(SetupWord::Ring),
+            Keyword::Setup(SetupWord::Base),
+            Keyword::Setup(SetupWord::Task),
+            Keyword::Turn(TurnWord::Step),
+            Keyword::Turn(TurnWord::Read),
+        ],
+        5 => &[
+            Keyword::Setup(SetupWord::Clock),
+            Keyword::Setup(SetupWord::Shift),
+        ],
+        6 => &[Keyword::Writer],
+        8 => &[Keyword::Schedule],
+        _ => &[],
+    }
+}
 
 /// How a keyword is spelled.
 fn spelling(keyword: Keyword) -> &'static [u8]
@@ -159,12 +182,12 @@ fn keyword_among(keywords: &[Keyword], word: &[u8]) -> Keyword
 pub fn step_keyword(word: &[u8]) -> Keyword
     ensures { result ≡ keyword_among step_keywords word.now }
 {
-    keyword_among(&STEP_KEYWORDS, word)
+    keyword_among(step_keywords(word.len()), word)
 }
 
 /// The keyword that any other line has, by its first word.
 pub fn other_keyword(word: &[u8]) -> Keyword
     ensures { result ≡ keyword_among other_keywords word.now }
 {
-    keyword_among(&OTHER_KEYWORDS, word)
+    keyword_among(other_keywords(word.len()), word)
 }

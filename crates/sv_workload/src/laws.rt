@@ -1,16 +1,7 @@
 ghost use Rattle.std.specs.Prelude.{◌≡◌, ℕ, ◌+◌, ◌<◌, List, [], length, take, slice_index_or, Some, None};
-ghost use Rattle.sv_workload.specs.Form.{HasOneLoad, HasOnePlace, AreApart, IsDecided};
 ghost use Rattle.sv_workload.specs.Lines.{lines_of};
 ghost use Rattle.sv_workload.specs.Grammar.{fault_at, first_fault, IsFirstFault};
 ghost use Rattle.sv_workload.specs.declared.fault.LineFault.{LineFault};
-
-/// The law of the form: a text says one load, or has one first line outside, and never both.
-pub fn formed_once()
-    ensures load { HasOneLoad }
-    ensures place { HasOnePlace }
-    ensures apart { AreApart }
-    ensures total { IsDecided }
-{}
 
 /// The law of the language: a text's first fault is that of the one line with a fault behind lines
 /// without one, and a text without such a line has none.

@@ -2,6 +2,7 @@
 #![tactic(auto)]
 
 mod acting;
+mod adding;
 mod capped;
 mod checking;
 mod cutting;
@@ -19,16 +20,15 @@ mod numbers;
 mod parsing;
 mod places;
 mod range;
-mod script;
 mod scripts;
 mod settings;
 mod shaping;
-mod stepping;
+mod taking;
 mod texting;
 mod words;
 
 pub use fault::{LineFault, WorkFault};
-pub use laws::{formed_once, the_first_fault};
+pub use laws::the_first_fault;
 pub use load::{Act, Action, Command, ModuleRow, Need, Step, Task, Workload};
 pub use parsing::parse;
 

@@ -1,11 +1,13 @@
 ghost use Rattle.std.specs.Prelude.{◌≡◌, ◌<◌, ◌==◌, length, position};
-ghost use Rattle.sv_workload.specs.Reading.{IsNext};
+ghost use Rattle.sv_workload.specs.Lines.{IsNext};
+
+use memchr::memchr;
 
 /// Where the first line ends, if a line feed ends it.
 fn line_end(text: &[u8]) -> Option<usize>
     ensures { result ≡ position (λ b. b == 10) text.now }
 {
-    text.iter().position(|byte| *byte == b'\n')
+    memchr(b'\n', text)
 }
 
 /// The first line of a text, and what stands behind it.

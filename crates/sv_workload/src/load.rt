@@ -1,7 +1,6 @@
-ghost use Rattle.std.specs.Prelude.{◌≡◌, ◌<◌, ◌≤◌, length, map, IfOk};
+ghost use Rattle.std.specs.Prelude.{◌≡◌, ◌<◌, ◌≤◌, length, map};
 ghost use Rattle.sv_workload.specs.Load.{script_of};
 ghost use Rattle.sv_workload.specs.Need.{need_items, need_bytes, IsWithinLimits, HasNeed};
-ghost use Rattle.sv_workload.specs.Form.{one_writer};
 ghost use Rattle.sv_workload.specs.Draft.{load_by};
 
 use crate::settings::Settings;
@@ -97,33 +96,6 @@ impl Model for Workload {
 }
 
 impl Workload {
-    /// A workload of one writer, with all else as it is where nothing is said of it.
-    pub fn one_writer(alloc: Global, steps: Vec<Step>, need: Need) -> Result<Workload, NoMemory>
-        requires { HasNeed (one_writer steps.items) need }
-        ensures { IfOk result (λ load. load ≡ one_writer steps.items) }
-    {
-        let mut writers = Vec::new(alloc);
-        if writers.push(steps).is_err() {
-            return Err(NoMemory);
-        }
-        Ok(Workload {
-            ring: 1024,
-            clock: 1000000,
-            cpu: 1000000,
-            base: 536870912,
-            shift: 2,
-            timed: false,
-            lines: Vec::new(alloc),
-            tasks: Vec::new(alloc),
-            modules: Vec::new(alloc),
-            commands: Vec::new(alloc),
-            writers,
-            scheduled: false,
-            schedule: Vec::new(alloc),
-            need,
-        })
-    }
-
     /// A workload of all that can be told by now: no lines, modules or commands.
     pub fn of(
         alloc: Global,

@@ -1,9 +1,8 @@
-ghost use Rattle.std.specs.Prelude.{◌≡◌, ◌-◌, ◌^◌, ◌<◌, min, IsTrue};
+ghost use Rattle.std.specs.Prelude.{◌≡◌, ◌-◌, ◌^◌, min, IsTrue};
 ghost use Rattle.std.specs.List.{list_all};
 ghost use Rattle.std.specs.Char.{is_ascii_digit};
 ghost use Rattle.std.specs.Str.Parse.{digits_value};
-ghost use Rattle.sv_workload.specs.Form.{begins_well};
-ghost use Rattle.sv_workload.specs.Reading.{is_number, number_of};
+ghost use Rattle.sv_workload.specs.Words.{begins_well, is_number};
 
 /// Whether no digit stands behind a 0 at the front.
 fn begins_well(word: &[u8]) -> bool
@@ -41,16 +40,4 @@ pub fn digits_value(digits: &[u8]) -> u64
             .saturating_add((*digit - b'0') as u64);
     }
     value
-}
-
-/// The number that a word is, if it is one and is no greater than the most.
-pub fn number(word: &[u8], most: u64) -> Option<u64>
-    requires { most < 2 ^ 64 - 1 }
-    ensures { result ≡ number_of most word.now }
-{
-    if !is_number(word) {
-        return None;
-    }
-    let value = digits_value(word);
-    if value <= most { Some(value) } else { None }
 }

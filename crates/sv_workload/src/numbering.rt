@@ -1,13 +1,12 @@
-ghost use Rattle.std.specs.Prelude.{◌≡◌, List, drop, length, true, IsTrue, ◌++◌};
+ghost use Rattle.std.specs.Prelude.{◌≡◌, ℕ, ◌-◌, ◌^◌, min, List, drop, length, true, IsTrue, ◌++◌};
 ghost use Rattle.std.specs.Option.{option_map_or};
 ghost use Rattle.sv_workload.specs.Line.{Line};
-ghost use Rattle.sv_workload.specs.Forms.{between, form_of};
+ghost use Rattle.sv_workload.specs.Forms.{between, form_of, is_in};
 ghost use Rattle.sv_workload.specs.Checks.{is_within, are_within, has_bad_number};
 
-use crate::capped::is_within;
+use crate::capped::{capped_number, is_within};
 use crate::cutting::CutLine;
 use crate::form::Form;
-use crate::number::number;
 use crate::range::Range;
 use crate::words::Words;
 
@@ -32,12 +31,29 @@ fn are_within(ranges: &[Range], words: &mut Words<'_>) -> bool
     true
 }
 
+/// Whether so many ticks may pass before a step. `u64::MAX` stands for every number from there on.
+fn are_few_ticks(n: u64) -> bool
+    ensures { (whole : ℕ) → n ≡ min whole (2 ^ 64 - 1) → result ≡ is_in (between 0 8589934592) whole }
+{
+    n <= MOST_TICKS
+}
+
+/// Whether a word is a number of ticks that may pass before a step.
+fn is_ticks(word: &[u8]) -> bool
+    ensures { result ≡ is_within (between 0 8589934592) word.now }
+{
+    match capped_number(word) {
+        Some(n) => are_few_ticks(n),
+        None => false,
+    }
+}
+
 /// Whether the word for the ticks is a number of their range, if there is one.
 fn are_ticks(word: Option<&[u8]>) -> bool
     ensures { result ≡ option_map_or (λ word. is_within (between 0 8589934592) word.now) word.entry true }
 {
     match word {
-        Some(word) => number(word, MOST_TICKS).is_some(),
+        Some(word) => is_ticks(word),
         None => true,
     }
 }

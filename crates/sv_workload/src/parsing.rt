@@ -1,44 +1,37 @@
-ghost use Rattle.std.specs.Prelude.{◌≡◌, ℕ, ◌^◌, ◌<◌, length, Err, IfOk};
-ghost use Rattle.sv_workload.specs.Form.{IsForm, IsFirstOutside};
+ghost use Rattle.std.specs.Prelude.{◌≡◌, ℕ, ◌<◌, ◌^◌, length, IfOk, Err, Some};
+ghost use Rattle.sv_workload.specs.declared.fault.WorkFault.{WorkFault};
+ghost use Rattle.sv_workload.specs.Grammar.{first_reason, IsWorkload, SaysNothingOfLater};
 
+use crate::draft::Draft;
 use crate::fault::WorkFault;
 use crate::lines::first_line;
 use crate::load::Workload;
-use crate::script::Script;
-use crate::stepping::step;
 use std::alloc::Global;
 
-/// Reads a text as a workload, if it is of the form that is read: the line `writer`, and then the
-/// steps of the one writer, one a line.
+/// Reads a text as a workload. `Line` names the first line with a fault, counted from 1, and the
+/// reason: the first check that it fails. `NoMemory` says only that there was too little of it.
 ///
-/// Each byte is looked at a few times, and memory is taken for the list of steps and the list of the
-/// one writer alone. `NoMemory` says only that there was too little of it.
+/// The text is read once, line by line, and memory is taken for what is kept of it alone: each step,
+/// task and turn, and a name, a printed text or a call's numbers in a piece of their own.
 pub fn parse(alloc: Global, text: &[u8]) -> Result<Workload, WorkFault>
     requires { length text.now < 2 ^ 32 }
-    ensures ok { IfOk result (λ load. IsForm text.now load) }
-    ensures unbuilt { (place : ℕ) → result ≡ Err (WorkFault.Unbuilt place) → IsFirstOutside text.now place }
+    ensures ok { IfOk result (λ load. IsWorkload text.now load) }
+    ensures later { IfOk result SaysNothingOfLater }
+    ensures line { (line reason : ℕ) → result ≡ Err (WorkFault.Line line reason) → first_reason text.now ≡ Some (line, reason) }
 {
-    if text.is_empty() {
-        return Err(WorkFault::Unbuilt { place: 0 });
-    }
-    let (first, behind) = first_line(text);
-    if first != b"writer".as_slice() {
-        return Err(WorkFault::Unbuilt { place: 0 });
-    }
-    let mut script = Script::new(alloc);
-    let mut rest = behind;
+    let mut draft = Draft::new(alloc);
+    let mut rest = text;
+    let mut number = 0u64;
     while !rest.is_empty() {
-        let place = (text.len() - rest.len()) as u64;
         let (line, behind) = first_line(rest);
-        let Some(step) = step(line) else {
-            return Err(WorkFault::Unbuilt { place });
-        };
-        if !script.has_room(&step) {
-            return Err(WorkFault::Unbuilt { place });
+        number += 1;
+        if let Some(fault) = draft.take(alloc, line)? {
+            return Err(WorkFault::Line {
+                line: number,
+                reason: fault.reason(),
+            });
         }
-        script.push(step)?;
         rest = behind;
     }
-    let load = script.into_workload(alloc)?;
-    Ok(load)
+    Ok(draft.into_workload(alloc))
 }

@@ -1,4 +1,4 @@
-ghost use Rattle.std.specs.Prelude.{◌≡◌, ◌+◌, ◌<◌, ◌≤◌, ◌∷◌, ◌++◌, [], length, map, OnOk, OnErr};
+ghost use Rattle.std.specs.Prelude.{◌≡◌, ◌<◌, ◌≤◌, ◌∷◌, ◌++◌, [], true, length, map, OnOk, OnErr};
 ghost use Rattle.sv_packet.specs.Spelling.{spelling_of, IsRecordable};
 ghost use Rattle.sv_workload.specs.Need.{act_bytes, one_if, is_start_act, IsStepAct};
 ghost use Rattle.sv_workload.specs.Scripts.{over_scripts, onto_last, NeedOf};
@@ -41,7 +41,7 @@ fn event_len(event: &Event) -> u64
 }
 
 /// How many bytes of a stream a step needs at most.
-pub fn act_bytes(act: &Act) -> u64
+fn act_bytes(act: &Act) -> u64
     requires act { IsStepAct act.now }
     ensures bytes { result ≡ act_bytes act.now }
     ensures most { result ≤ 153 }
@@ -54,7 +54,7 @@ pub fn act_bytes(act: &Act) -> u64
 }
 
 /// 1 for a step that starts the recorder.
-pub fn start_count(act: &Act) -> u64
+fn start_count(act: &Act) -> u64
     ensures { result ≡ one_if (is_start_act act.now) }
 {
     match act {
@@ -127,6 +127,7 @@ impl Scripts {
         requires few { length self.old < 16 }
         ensures ok { OnOk result (self.new ≡ self.old ++ [] ∷ []) }
         ensures err { OnErr result (self.new ≡ self.old) }
+        ensures all { length self.new ≤ 16 }
     {
         if self.writers.push(Vec::new(alloc)).is_err() {
             return Err(NoMemory);
@@ -138,11 +139,12 @@ impl Scripts {
     pub fn push(&mut self, step: Step) -> Result<(), NoMemory>
         requires some { 0 < length self.old }
         requires few { over_scripts (λ s. 1) self.old < 1048576 }
-        requires few_starts { over_scripts (λ s. one_if (is_start_act s.act)) self.old + one_if (is_start_act step.act) ≤ 256 }
+        requires few_starts { is_start_act step.act ≡ true → over_scripts (λ s. one_if (is_start_act s.act)) self.old < 256 }
         requires advance { step.advance ≤ 8589934592 }
         requires act { IsStepAct step.act }
         ensures ok { OnOk result (self.new ≡ onto_last step self.old) }
         ensures err { OnErr result (self.new ≡ self.old) }
+        ensures all { length self.new ≤ 16 }
     {
         let starts = self.starts + start_count(&step.act);
         let bytes = self.bytes + act_bytes(&step.act);

@@ -1,5 +1,7 @@
 ghost use Rattle.std.specs.Prelude.{◌≡◌, unwrap_or};
 
+use crate::keyword::SetupWord;
+
 /// The settings that a text told so far. One that it didn't tell has its default.
 #[derive(Clone, Copy, Debug, Drop)]
 pub struct Settings {
@@ -11,7 +13,7 @@ pub struct Settings {
 }
 
 impl Settings {
-    ghost use Rattle.sv_workload.specs.Settings.{nothing_told, ring_told, clock_told, cpu_told, base_told, shift_told};
+    ghost use Rattle.sv_workload.specs.Settings.{nothing_told, tell, ring_told, clock_told, cpu_told, base_told, shift_told};
 
     /// Nothing is told yet.
     pub fn new() -> Settings
@@ -23,6 +25,24 @@ impl Settings {
             cpu: None,
             base: None,
             shift: None,
+        }
+    }
+
+    /// One more setting is told. The words of what is no setting tell none.
+    pub fn tell(&mut self, word: SetupWord, n: u32)
+        ensures { self.new ≡ tell word n self.old }
+    {
+        match word {
+            SetupWord::Ring => self.ring = Some(n),
+            SetupWord::Clock => self.clock = Some(n),
+            SetupWord::Cpu => self.cpu = Some(n),
+            SetupWord::Base => self.base = Some(n),
+            SetupWord::Shift => self.shift = Some(n),
+            SetupWord::Time
+            | SetupWord::Desc
+            | SetupWord::Task
+            | SetupWord::Module
+            | SetupWord::Command => {}
         }
     }
 

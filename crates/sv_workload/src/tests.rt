@@ -1,12 +1,7 @@
 use super::*;
-use crate::acting::act;
-use crate::keyword::{ActWord, TurnWord};
-use crate::making::{action, task};
-use crate::places::first_number;
 use std::alloc::{AllocError, Global};
 use std::test::*;
 use sv_packet::Event;
-use sv_prim::Bytes;
 
 /// What a step says, in short: its ticks, the identifier of its packet or a number from 100 on, and the number in it.
 fn told(step: &Step) -> (u64, u32, u32) {
@@ -28,8 +23,17 @@ fn told(step: &Step) -> (u64, u32, u32) {
     (step.advance, what, number)
 }
 
+/// The steps of the first writer, none where there is no writer.
+fn first_steps<'a>(load: &'a Workload) -> &'a [Step] {
+    if load.writers() > 0 {
+        load.steps(0)
+    } else {
+        &[]
+    }
+}
+
 #[test]
-fn texts_of_the_form(rt: HostRuntime) -> Result<(), Fail> {
+fn steps_of_one_writer(rt: HostRuntime) -> Result<(), Fail> {
     let alloc = rt.alloc();
     for (text, want, items, bytes) in [
         (
@@ -68,7 +72,7 @@ fn texts_of_the_form(rt: HostRuntime) -> Result<(), Fail> {
         let load = parse(alloc, text.as_bytes())?;
         assert_eq!(rt; load.writers(), 1, "{text}");
         let mut steps = Vec::new(alloc);
-        for step in load.steps(0) {
+        for step in first_steps(&load) {
             steps.push(told(step))?;
         }
         assert_eq!(rt; steps.as_slice(), want, "{text}");
@@ -77,69 +81,129 @@ fn texts_of_the_form(rt: HostRuntime) -> Result<(), Fail> {
     Ok(())
 }
 
-#[test]
-fn texts_outside_the_form(rt: HostRuntime) {
-    let alloc = rt.alloc();
-    for (text, want) in [
-        ("", 0),
-        ("\n", 0),
-        ("1 mark 5", 0),
-        ("writer \n1 nop", 0),
-        ("writer\r\n1 nop", 0),
-        ("; a\nwriter", 0),
-        ("writer\n1 ready 4", 7),
-        ("writer\n01 mark 5", 7),
-        ("writer\n1 mark 05", 7),
-        ("writer\n\n1 nop", 7),
-        ("writer\n; a\n1 nop", 7),
-        ("writer\nwriter\n", 7),
-        ("writer\n1 nop\n8589934593 nop\n", 13),
-        ("writer\n1 nop\n1 isr 4294967296\n", 13),
-        ("writer\n1 nop\n1  nop\n", 13),
-        ("writer\n1 nop\n1 nop \n", 13),
-        ("writer\n1 nop\n1 nop\r\n", 13),
-        ("writer\n1 nop\n 1 nop\n", 13),
-        ("writer\n1 nop\n1 nop 1\n", 13),
-        ("writer\n1 nop\n1 mark\n", 13),
-        ("writer\n1 nop\n1 mark 1 2\n", 13),
-        ("writer\n1 nop\n1 Nop\n", 13),
-        ("writer\n1 nop\n1\n", 13),
-        ("writer\n1 nop\n99999999999999999999999 nop\n", 13),
-    ] {
-        match parse(alloc, text.as_bytes()) {
-            Ok(_) => assert!(rt; false, "{text} was read"),
-            Err(fault) => assert_eq!(rt; fault, WorkFault::Unbuilt { place: want }, "{text}"),
-        }
-    }
-}
-
-/// The line `writer`, and so many lines of a start.
-fn starts(alloc: Global, count: usize) -> Result<Vec<u8>, AllocError> {
-    let mut text = b"writer\n".to_vec(alloc)?;
-    for _ in 0..count {
-        text.extend_from_slice(b"0 start\n")?;
-    }
-    Ok(text)
-}
-
-/// How many steps a text says, which may be too long.
-fn step_count(alloc: Global, text: &[u8]) -> Result<usize, WorkFault> {
+/// What is wrong with a text of fewer than 2^32 bytes.
+fn fault_of(alloc: Global, text: &[u8]) -> Option<WorkFault> {
     if text.len() >= 1 << 32 {
-        return Err(WorkFault::NoMemory);
+        return None;
     }
-    let load = parse(alloc, text)?;
-    Ok(load.steps(0).len())
+    match parse(alloc, text) {
+        Ok(_) => None,
+        Err(fault) => Some(fault),
+    }
 }
 
 #[test]
-fn at_most_256_starts(rt: HostRuntime) -> Result<(), Fail> {
+fn the_first_line_with_a_fault(rt: HostRuntime) {
     let alloc = rt.alloc();
-    for (count, want) in [
-        (256, Ok(256)),
-        (257, Err(WorkFault::Unbuilt { place: 7 + 256 * 8 })),
+    for (text, line, reason) in [
+        // Each fault, but that of modules, whose lines can't be written yet.
+        ("hello", 1, 1),
+        ("ring", 1, 2),
+        ("ring 63", 1, 3),
+        ("ring 64\nring 64", 2, 4),
+        ("writer\n1 ready 536871941", 2, 6),
+        ("1 mark 5", 1, 7),
+        (
+            "writer\n1 print ppppppppppppppppppppppppppppppppppppppppppppppppppppppppppppppppppppppppppppppppppppppppppppppppppppppppppppppppppppppppppppppppp",
+            2,
+            8,
+        ),
+        ("writer\nschedule\nstep 1", 3, 9),
+        // A line that fails two checks has the reason of the first.
+        ("writer\nschedule\nblink 1", 3, 1),
+        ("step ", 1, 7),
+        ("ring 63 ", 1, 2),
+        ("task x 0 0 0 0 nnnnnnnnnnnnnnnnnnnnnnnnnnnnnnnnn", 1, 3),
+        (
+            "task 536870913 0 0 0 0 nnnnnnnnnnnnnnnnnnnnnnnnnnnnnnnnn",
+            1,
+            8,
+        ),
+        ("base 0\ntask 4 0 0 0 0 M\ntask 5 0 0 0 0 M", 3, 6),
+        // Numbers and words as they may not stand.
+        ("writer\n01 mark 5", 2, 3),
+        ("writer\n1 mark 05", 2, 3),
+        ("writer\n8589934593 nop", 2, 3),
+        ("writer\n1 isr 99999999999999999999999", 2, 3),
+        ("writer\n1  nop", 2, 1),
+        ("writer\n1 nop ", 2, 2),
+        ("writer\n1 nop\r\n", 2, 1),
+        ("writer\n1 call 40 1 2 3 4 5 6 7 8 9", 2, 2),
+        ("time", 1, 1),
+        // Remarks are counted, and later lines aren't looked at.
+        ("; a\n\nring 63\nhello", 3, 3),
     ] {
         assert_eq!(rt;
-            step_count(alloc, starts(alloc, count)?.as_slice()),
+            fault_of(alloc, text.as_bytes()),
+            Some(WorkFault::Line { line, reason }),
+            "{text}"
+        );
+    }
+}
+
+/// So many lines of a kind behind a text.
+fn with_lines(
+    alloc: Global,
+    text: &[u8],
+    count: usize,
+    line: &[u8],
+) -> Result<Vec<u8>, AllocError> {
+    let mut all = text.to_vec(alloc)?;
+    for _ in 0..count {
+        all.extend_from_slice(line)?;
+    }
+    Ok(all)
+}
+
+const TASKS: &[u8] =
+    b"base 0\nshift 0\ntask 0 0 0 0 0 M\ntask 1 0 0 0 0 M\ntask 2 0 0 0 0 M\ntask 3 0 0 0 0 M\ntask 4 0 0 0 0 M\ntask 5 0 0 0 0 M\ntask 6 0 0 0 0 M\ntask 7 0 0 0 0 M\ntask 8 0 0 0 0 M\ntask 9 0 0 0 0 M\ntask 10 0 0 0 0 M\ntask 11 0 0 0 0 M\ntask 12 0 0 0 0 M\ntask 13 0 0 0 0 M\ntask 14 0 0 0 0 M\ntask 15 0 0 0 0 M\ntask 16 0 0 0 0 M\ntask 17 0 0 0 0 M\ntask 18 0 0 0 0 M\ntask 19 0 0 0 0 M\ntask 20 0 0 0 0 M\ntask 21 0 0 0 0 M\ntask 22 0 0 0 0 M\ntask 23 0 0 0 0 M\ntask 24 0 0 0 0 M\ntask 25 0 0 0 0 M\ntask 26 0 0 0 0 M\ntask 27 0 0 0 0 M\ntask 28 0 0 0 0 M\ntask 29 0 0 0 0 M\ntask 30 0 0 0 0 M\ntask 31 0 0 0 0 M\n";
+
+#[test]
+fn as_many_as_there_may_be(rt: HostRuntime) -> Result<(), Fail> {
+    let alloc = rt.alloc();
+    for (text, count, line, want) in [
+        (b"writer\n".as_slice(), 256, b"0 start\n".as_slice(), None),
+        (
+            b"writer\n",
+            257,
+            b"0 start\n",
+            Some(WorkFault::Line {
+                line: 258,
+                reason: 5,
+            }),
+        ),
+        (b"", 16, b"writer\n", None),
+        (
+            b"",
+            17,
+            b"writer\n",
+            Some(WorkFault::Line {
+                line: 17,
+                reason: 5,
+            }),
+        ),
+        (TASKS, 0, b"", None),
+        (
+            TASKS,
+            1,
+            b"task 32 0 0 0 0 M\n",
+            Some(WorkFault::Line {
+                line: 35,
+                reason: 5,
+            }),
+        ),
+        (
+            TASKS,
+            1,
+            b"task 31 0 0 0 0 M\n",
+            Some(WorkFault::Line {
+                line: 35,
+                reason: 4,
+            }),
+        ),
+    ] {
+        assert_eq!(rt;
+            fault_of(alloc, with_lines(alloc, text, count, line)?.as_slice()),
             want,
             "{count}"
         );
@@ -148,97 +212,59 @@ fn at_most_256_starts(rt: HostRuntime) -> Result<(), Fail> {
 }
 
 #[test]
-fn what_the_form_says_nothing_of(rt: HostRuntime) -> Result<(), Fail> {
-    let load = parse(rt.alloc(), b"writer\n")?;
-    assert_eq!(rt; load.ring(), 1024);
-    assert_eq!(rt; load.clock(), 1000000);
-    assert_eq!(rt; load.cpu(), 1000000);
-    assert_eq!(rt; load.base(), 536870912);
-    assert_eq!(rt; load.shift(), 2);
-    assert_eq!(rt; load.timed(), false);
-    assert_eq!(rt; load.lines().len(), 0);
-    assert_eq!(rt; load.tasks().len(), 0);
-    assert_eq!(rt; load.commands().len(), 0);
-    assert_eq!(rt; load.schedule().len(), 0);
-    formed_once();
-    Ok(())
-}
-
-fn records(act: &Act, want: &Event) -> bool {
-    match act {
-        Act::Event(event) => *event == *want,
-        _ => false,
-    }
-}
-
-#[test]
-fn steps_of_numbers_and_texts(rt: HostRuntime) -> Result<(), Fail> {
+fn what_is_said_of_a_target(rt: HostRuntime) -> Result<(), Fail> {
     let alloc = rt.alloc();
-    let run = act(alloc, ActWord::Run, &[536870920], b"", 536870912, 2)?;
-    assert!(rt; records(&run, &Event::TaskStart { task: 2 }));
-    let isr = act(alloc, ActWord::Isr, &[536870920], b"", 536870912, 2)?;
-    assert!(rt; records(&isr, &Event::IsrEnter { isr: 536870920 }));
-    let unready = act(alloc, ActWord::Unready, &[536870912, 9], b"", 536870912, 2)?;
-    assert!(rt; records(&unready, &Event::TaskUnready { task: 0, cause: 9 }));
-    let answered = act(alloc, ActWord::Return, &[33, 4], b"", 536870912, 2)?;
-    assert!(rt;
-        records(
-            &answered,
-            &Event::EndCall {
-                event: 33,
-                value: Some(4)
-            }
-        )
+    let plain = parse(alloc, b"writer\n")?;
+    let told = (
+        plain.ring(),
+        plain.clock(),
+        plain.cpu(),
+        plain.base(),
+        plain.shift(),
     );
-    let ended = act(alloc, ActWord::Return, &[33], b"", 536870912, 2)?;
-    assert!(rt;
-        records(
-            &ended,
-            &Event::EndCall {
-                event: 33,
-                value: None
-            }
-        )
+    assert_eq!(rt; told, (1024, 1000000, 1000000, 536870912, 2));
+    assert_eq!(rt; plain.scheduled(), false);
+    let load = parse(
+        alloc,
+        b"ring 65536\nclock 5\ncpu 6\nbase 16\nshift 4\ntask 32 5 1 2 3 the name\nwriter\n0 start\nwriter\n1 run 48\nschedule\nstep 1\nstep 0 8\nread 64\n",
+    )?;
+    let told = (
+        load.ring(),
+        load.clock(),
+        load.cpu(),
+        load.base(),
+        load.shift(),
     );
-    let called = act(alloc, ActWord::Call, &[40, 1, 300], b"", 536870912, 2)?;
-    let payload = Bytes::new(alloc, &[1, 0xAC, 2])?;
-    assert!(rt; records(&called, &Event::Opaque { id: 40, payload }));
-    let named = act(alloc, ActWord::Name, &[536870916], b"a b", 536870912, 2)?;
-    let text = Bytes::new(alloc, b"a b")?;
-    assert!(rt; records(&named, &Event::NameResource { resource: 1, text }));
-    Ok(())
-}
-
-#[test]
-fn turns_and_tasks(rt: HostRuntime) -> Result<(), Fail> {
+    assert_eq!(rt; told, (65536, 5, 6, 16, 4));
+    assert_eq!(rt; load.writers(), 2);
+    assert_eq!(rt; load.scheduled(), true);
     assert_eq!(rt;
-        action(TurnWord::Step, &[3]),
-        Action::Step {
-            writer: 3,
-            count: 1
-        }
+        load.schedule(),
+        [
+            Action::Step {
+                writer: 1,
+                count: 1
+            },
+            Action::Step {
+                writer: 0,
+                count: 8
+            },
+            Action::Read { most: 64 },
+        ]
+        .as_slice()
     );
-    assert_eq!(rt;
-        action(TurnWord::Step, &[3, 8]),
-        Action::Step {
-            writer: 3,
-            count: 8
-        }
-    );
-    assert_eq!(rt; action(TurnWord::Read, &[64]), Action::Read { most: 64 });
-    assert_eq!(rt; action(TurnWord::Send, &[]), Action::Send);
-    assert_eq!(rt; first_number(&[5, 6]), 5);
-    let task = task(rt.alloc(), &[1, 2, 3, 4, 5], b"idle")?;
-    assert_eq!(rt;
-        (
+    assert_eq!(rt; load.tasks().len(), 1);
+    for task in load.tasks() {
+        let numbers = (
             task.id,
             task.priority,
             task.stack_base,
             task.stack_size,
-            task.extra
-        ),
-        (1, 2, 3, 4, 5)
-    );
-    assert_eq!(rt; task.name.bytes(), b"idle".as_slice());
+            task.extra,
+        );
+        assert_eq!(rt; numbers, (32, 5, 1, 2, 3));
+        assert_eq!(rt; task.name.bytes(), b"the name".as_slice());
+    }
+    the_first_fault();
     Ok(())
 }

@@ -24,4 +24,4 @@ loop-recorder-smaller c =
 
 pub returns-clause-simulated : goal.returns-clause-simulated
 returns-clause-simulated c =
-    between-end c.args.recorder.now.load c.loop-recorder.recorder c.section.new.self c.requires.one.0 c.requires.one.1 c.loop-recorder.invariant c.in_default.ensures.unchanged (c.in_default.ensures.through.0 refl)
+    between-end c.args.recorder.now.load c.loop-recorder.recorder c.section.new.self c.requires.built c.requires.plain c.loop-recorder.invariant c.in_default.ensures.unchanged (c.in_default.ensures.through.0 refl)

@@ -1,4 +1,3 @@
-use Rattle.std.proofs.Common.{◌≡◌}
 use Rattle.sv_cli.proofs.Answering.{unread_known, shown_whole}
 use Rattle.sv_cli.proofs.showing.show.Goals as goal
 

@@ -1,43 +1,32 @@
-use Rattle.std.proofs.Common.{◌≡◌, ◌-◌, List, [], ◌∷◌, ◌++◌, length, Some, sym, subst, ◌∙◌}
-use Rattle.std.proofs.lemmas.Bool.{eqb-true, false≢true}
+use Rattle.std.proofs.Common.{◌≡◌, ℕ, ◌+◌, Option, Some, Ok, sym, ap, ◌∙◌}
+use Rattle.std.specs.Prelude.{option_map}
+use Rattle.std.proofs.lemmas.Bool.{eqb-true}
 use Rattle.std.proofs.lemmas.List.{nil_from_length}
-use Rattle.sv_workload.specs.declared.load.Step.{Step}
-use Rattle.sv_workload.specs.Form.{IsShort}
-use Rattle.sv_workload.proofs.OneScript.{Walk, walk_goes_on, walk_stops, walk_ends}
-use Rattle.sv_workload.proofs.Acts.{step_act}
-use Rattle.sv_workload.proofs.Steps.{step_means}
+use Rattle.sv_workload.specs.declared.fault.LineFault.{LineFault}
+use Rattle.sv_workload.specs.Reason.{reason_of}
+use Rattle.sv_workload.specs.Grammar.{fault_at, first_fault}
+use Rattle.sv_workload.proofs.Walking.{walk_goes_on, walk_stops, walk_ends}
 use Rattle.sv_workload.proofs.parsing.parse.Goals as goal
 
-pub push-requires-clause-act : goal.push-requires-clause-act
-push-requires-clause-act c =
-    let means = step_means c.first_line-in-loop-rest.result.0.now c.in-Some.step (sym c.step.ensures ∙ c.in-Some.is) in
-    step_act means.words c.in-Some.step.act means.act
-
-pub returns-in_default-clause-unbuilt : goal.returns-in_default-clause-unbuilt
-returns-in_default-clause-unbuilt c = λ place e.
-    let at : place ≡ length c.args.text.now - length c.loop-rest.rest.now = cc in
-    walk_stops c.args.text.now c.loop-rest.rest.now c.first_line-in-loop-rest.result.0.now c.first_line-in-loop-rest.result.1.now c.loop-rest.script place
-    c.loop-rest.invariant c.first_line-in-loop-rest.ensures (λ s is short. c.in_default.not-Some s (c.step.ensures ∙ is)) at
-
-pub returns-then-not-has_room-clause-unbuilt : goal.returns-then-not-has_room-clause-unbuilt
-returns-then-not-has_room-clause-unbuilt c = λ place e.
-    let at : place ≡ length c.args.text.now - length c.loop-rest.rest.now = cc in
-    walk_stops c.args.text.now c.loop-rest.rest.now c.first_line-in-loop-rest.result.0.now c.first_line-in-loop-rest.result.1.now c.loop-rest.script place
-    c.loop-rest.invariant c.first_line-in-loop-rest.ensures (λ s is short.
-    let read : Some s ≡ Some c.in-Some.step = sym is ∙ (sym c.step.ensures ∙ c.in-Some.is) in
-    let same : s ≡ c.in-Some.step = cc in
-    false≢true (sym c.if-not-has_room.true ∙ c.has_room.ensures.1 (subst (λ (t : Step). IsShort (c.loop-rest.script ++ t ∷ [])) same short))) at
+pub returns-in-Some-clause-line : goal.returns-in-Some-clause-line
+returns-in-Some-clause-line c = λ line reason is.
+    let walk = c.loop-rest.invariant in
+    let here : fault_at walk.before c.first_line.result.0.now ≡ Some c.in-Some.fault =
+    c.take.ensures.fault walk.before c.in-Some.fault walk.stands (c.in_ok-fault.was ∙ ap (λ (o : Option LineFault). Ok o) c.in-Some.is) in
+    let found : first_fault c.args.text.now ≡ Some (c.loop-rest.number + 1, c.in-Some.fault) =
+    walk_stops c.args.text.now c.loop-rest.rest.now c.first_line.result.0.now c.first_line.result.1.now c.loop-rest.draft c.loop-rest.number walk c.first_line.ensures c.in-Some.fault here in
+    let number : c.loop-rest.number + 1 ≡ line = cc in
+    let told : c.reason.result ≡ reason = cc in
+    ap (option_map (λ (found : ℕ × LineFault). (found.0, reason_of found.1))) found
+    ∙ ap (λ (n : ℕ). Some (n, reason_of c.in-Some.fault)) number ∙ ap (λ (r : ℕ). Some (line, r)) (sym c.reason.ensures ∙ told)
 
 pub loop-rest-preserved : goal.loop-rest-preserved
 loop-rest-preserved c =
-    let step = c.in-Some.step in
-    subst (λ (s : List Step). Walk c.args.text.now c.first_line-in-loop-rest.result.1.now s) (sym c.in_ok-push.ensures.ok)
-    (walk_goes_on c.args.text.now c.loop-rest.rest.now c.first_line-in-loop-rest.result.0.now c.first_line-in-loop-rest.result.1.now c.loop-rest.script step
-    c.loop-rest.invariant c.first_line-in-loop-rest.ensures (sym c.step.ensures ∙ c.in-Some.is) (c.has_room.ensures.0 c.if-not-has_room.false))
+    let walk = c.loop-rest.invariant in
+    let taken = c.take.ensures.good walk.before walk.stands (c.in_ok-fault.was ∙ ap (λ (o : Option LineFault). Ok o) c.in_default.is) in
+    walk_goes_on c.args.text.now c.loop-rest.rest.now c.first_line.result.0.now c.first_line.result.1.now c.loop-rest.draft c.loop-rest.number walk c.first_line.ensures c.take.new.self taken.0 taken.1
 
 pub returns-clause-ok : goal.returns-clause-ok
-returns-clause-ok c = record {
-  steps = c.loop-rest.script;
-  lines = walk_ends c.args.text.now c.loop-rest.rest.now c.loop-rest.script c.loop-rest.invariant (nil_from_length c.loop-rest.rest.now (eqb-true _ _ (sym c.is_empty-in-loop-rest.ensures ∙ c.loop-rest-test.false)));
-  all = c.in_ok-load.ensures;
-}
+returns-clause-ok c =
+    let end = walk_ends c.args.text.now c.loop-rest.rest.now c.loop-rest.draft c.loop-rest.number c.loop-rest.invariant (nil_from_length c.loop-rest.rest.now (eqb-true _ _ (sym c.loop-rest-test.ensures))) in
+    record { good = end.0; meaning = c.into_workload.ensures ∙ end.1 }

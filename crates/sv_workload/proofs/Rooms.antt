@@ -1,0 +1,216 @@
+-- What a draft may take, since the line has no fault, and what it then stands for.
+use Rattle.std.proofs.Common.{◌≡◌, ℕ, ◌<◌, ◌≤◌, ◌-◌, ◌^◌, Bool, true, false, ◌||◌, ◌&&◌, not, List, [], ◌∷◌, ◌++◌, length, map, take, get_or, Option, Some, None, refl, sym, ap, subst, ◌∙◌, nat_le, arith}
+use Rattle.std.specs.List.{list_all}
+use Rattle.std.specs.Option.{option_map_or}
+use Rattle.std.proofs.lemmas.List.{length-map}
+use Rattle.std.proofs.lemmas.List.Sums.{length-filter}
+use Rattle.std.proofs.lemmas.Bool.{and_parts, leb-true, leb-false}
+use Rattle.sv_workload.specs.declared.load.Step.{Step}
+use Rattle.sv_workload.specs.declared.range.Range.{Range}
+use Rattle.sv_workload.specs.declared.keyword.SetupWord.{SetupWord}
+use Rattle.sv_workload.specs.declared.keyword.SetupWord.TheVariants.{Ring, Clock, Cpu, Base, Shift, Time, Desc, Module, Command}
+use Rattle.sv_workload.specs.declared.keyword.SetupWord.TheVariants as setup
+use Rattle.sv_workload.specs.declared.keyword.ActWord.{ActWord}
+use Rattle.sv_workload.specs.declared.keyword.ActWord.TheVariants.{Start, Stop, Nop, Isr, IsrExit, Run, Halt, Ready, Unready, Create, Terminate, Mark, MarkEnd, Idle, Sched, Timer, TimerExit, Name, Print, Call, Return}
+use Rattle.sv_workload.specs.declared.keyword.TurnWord.{TurnWord}
+use Rattle.sv_workload.specs.declared.keyword.TurnWord.TheVariants as turn
+use Rattle.sv_workload.specs.declared.keyword.Keyword.{Keyword}
+use Rattle.sv_workload.specs.declared.keyword.Keyword.TheVariants as keyword
+use Rattle.sv_workload.specs.Keywords.{is_same}
+use Rattle.sv_workload.specs.Forms.{between, is_in, form_of}
+use Rattle.sv_workload.specs.Words.{number_of}
+use Rattle.sv_workload.specs.Numbers.{capped}
+use Rattle.sv_workload.specs.Line.{Line, numbers_of, text_of}
+use Rattle.sv_workload.specs.Need.{one_if, is_start_act}
+use Rattle.sv_workload.specs.Settings.{tell, base_told, shift_told}
+use Rattle.sv_workload.specs.Scripts.{over_scripts}
+use Rattle.sv_workload.specs.Fit.{IsFit}
+use Rattle.sv_workload.specs.Meaning.{says, those, count, number, task_of, act_of, with_shrunk, step_by, base_of, shift_of}
+use Rattle.sv_workload.specs.Checks.{count_of, is_step, is_all_there, is_within, are_within}
+use Rattle.sv_workload.specs.Draft.{Draft, Stands, is_later}
+use Rattle.sv_workload.proofs.Capping.{number_or_0, numbers_behind, capped_low, in_ranges}
+use Rattle.sv_workload.proofs.Passed.{Passes}
+use Rattle.sv_workload.proofs.Growing.{as_many, neither, start_word, stands-ring, stands-clock, stands-cpu, stands-base, stands-shift}
+
+pub fit_of : (lines : List Line) (line : Line) → Passes lines line → IsFit line
+fit_of lines line passed = record { shape = passed.shaped; numbers = passed.numbers; text = passed.text }
+
+fewer : (limit n : ℕ) → nat_le limit n ≡ false → n < limit
+fewer limit n e = omega (arith, leb-false limit n e)
+
+-- what is left of the limits behind lines for a step with this word
+acts_left : (lines : List Line) (word : ActWord) → is_all_there lines (keyword.Act word) ≡ false
+    → (nat_le 1048576 (count_of is_step lines) ≡ false) × (is_same (keyword.Act Start) (keyword.Act word) ≡ true → nat_le 256 (count (keyword.Act Start) lines) ≡ false)
+acts_left lines Start e = (neither _ _ e, λ is. or_right (nat_le 1048576 (count_of is_step lines)) (nat_le 256 (count (keyword.Act Start) lines)) e)
+  where
+    or_right : (a b : Bool) → (a || b) ≡ false → b ≡ false
+    or_right true b e = cc
+    or_right false b e = e
+acts_left lines Stop e = (e, λ is. cc)
+acts_left lines Nop e = (e, λ is. cc)
+acts_left lines Isr e = (e, λ is. cc)
+acts_left lines IsrExit e = (e, λ is. cc)
+acts_left lines Run e = (e, λ is. cc)
+acts_left lines Halt e = (e, λ is. cc)
+acts_left lines Ready e = (e, λ is. cc)
+acts_left lines Unready e = (e, λ is. cc)
+acts_left lines Create e = (e, λ is. cc)
+acts_left lines Terminate e = (e, λ is. cc)
+acts_left lines Mark e = (e, λ is. cc)
+acts_left lines MarkEnd e = (e, λ is. cc)
+acts_left lines Idle e = (e, λ is. cc)
+acts_left lines Sched e = (e, λ is. cc)
+acts_left lines Timer e = (e, λ is. cc)
+acts_left lines TimerExit e = (e, λ is. cc)
+acts_left lines Name e = (e, λ is. cc)
+acts_left lines Print e = (e, λ is. cc)
+acts_left lines Call e = (e, λ is. cc)
+acts_left lines Return e = (e, λ is. cc)
+
+module _ (old : Draft) (lines : List Line) (line : Line) (stands : Stands old lines) (passed : Passes lines line) where
+  pub room_for_task : line.keyword ≡ keyword.Setup setup.Task → length old.tasks < 32
+  room_for_task e =
+      let left : count (keyword.Setup setup.Task) lines < 32 = fewer 32 (count (keyword.Setup setup.Task) lines) (rw e at passed.few) in
+      omega (arith, left, ap length stands.tasks, length-map (those (keyword.Setup setup.Task) lines) task_of, length-filter (says (keyword.Setup setup.Task)) lines)
+
+  pub room_for_writer : line.keyword ≡ keyword.Writer → length old.scripts < 16
+  room_for_writer e =
+      let left : count keyword.Writer lines < 16 = fewer 16 (count keyword.Writer lines) (rw e at passed.few) in
+      omega (arith, left, ap length stands.scripts, as_many lines)
+
+  pub room_for_step : (word : ActWord) → line.keyword ≡ keyword.Act word → over_scripts (λ s. 1) old.scripts < 1048576
+  room_for_step word e =
+      let left : count_of is_step lines < 1048576 = fewer 1048576 (count_of is_step lines) (acts_left lines word (rw e at passed.few)).0 in
+      omega (arith, left, stands.steps)
+
+  pub room_for_start : (word : ActWord) (step : Step) (base shift : ℕ) → line.keyword ≡ keyword.Act word → Some step ≡ step_by line.keyword base shift line
+      → is_start_act step.act ≡ true → over_scripts (λ s. one_if (is_start_act s.act)) old.scripts < 256
+  room_for_start word step base shift e is starts =
+      let ns = with_shrunk (form_of (keyword.Act word)).identifier base shift (numbers_of line) in
+      let made : Some step ≡ step_by (keyword.Act word) base shift line = subst (λ (k : Keyword). Some step ≡ step_by k base shift line) e is in
+      let act : step.act ≡ act_of word ns (text_of line) = cc in
+      let same : is_same (keyword.Act Start) (keyword.Act word) ≡ true = sym (ap is_start_act act ∙ start_word word ns (text_of line)) ∙ starts in
+      let left : count (keyword.Act Start) lines < 256 = fewer 256 (count (keyword.Act Start) lines) ((acts_left lines word (rw e at passed.few)).1 same) in
+      omega (arith, left, stands.starts)
+
+  pub base_is : base_told old.settings ≡ base_of lines
+  base_is = ap base_told stands.settings
+
+  pub shift_is : shift_told old.settings ≡ shift_of lines
+  shift_is = ap shift_told stands.settings
+
+-- the one number of a setting is of its range
+one_in : (range : Range) (words : List (List ℕ)) → nat_le 1 (length words) ≡ true → are_within (range ∷ []) words ≡ true → is_in range (get_or (map number_or_0 (take 1 words)) 0 0) ≡ true
+one_in range [] some within = cc
+one_in range (word ∷ words) some within = of (number_of word) (and_parts (is_within range word) true within).0
+  where
+    of : (n : Option ℕ) → option_map_or (is_in range) n false ≡ true → is_in range (option_map_or (λ k. k) n 0) ≡ true
+    of None e = absurd (let l : false ≡ true = e in cc)
+    of (Some n) e = e
+
+first_and : (a b c : Bool) → not (a && b && c) ≡ false → a ≡ true
+first_and true b c e = refl
+first_and false b c e = cc
+
+low_in : (least most n : ℕ) → nat_le most (2 ^ 32 - 1) ≡ true → is_in (between least most) n ≡ true → n < 2 ^ 32
+low_in least most n low e = omega (arith, leb-true most (2 ^ 32 - 1) low, leb-true n most (and_parts (nat_le least n) (nat_le n most) e).1)
+
+-- the line tells a setting, whose number is of its range and is kept as it is
+pub record Tells (line : Line) (word : SetupWord) : Type 0 where
+  pub range : list_all (λ range. is_in range (capped (number line 0))) (form_of (keyword.Setup word)).numbers ≡ true
+  pub same : capped (number line 0) ≡ number line 0
+
+module _ (line : Line) (fit : IsFit line) where
+  tells-ring : line.keyword ≡ keyword.Setup Ring → Tells line Ring
+  tells-ring e =
+      let filled : nat_le 1 (length line.words) ≡ true = first_and _ _ _ (rw e at fit.shape) in
+      let inside : is_in (between 64 65536) (number line 0) ≡ true =
+      subst (λ (k : Keyword). is_in (between 64 65536) (get_or (numbers_behind k line.words) 0 0) ≡ true) (sym e) (one_in (between 64 65536) line.words filled (in_ranges line (keyword.Setup Ring) e fit)) in
+      let same : capped (number line 0) ≡ number line 0 = capped_low (number line 0) (low_in 64 65536 (number line 0) refl inside) in
+      record { range = rw (same, inside) refl; same = same }
+
+  tells-clock : line.keyword ≡ keyword.Setup Clock → Tells line Clock
+  tells-clock e =
+      let filled : nat_le 1 (length line.words) ≡ true = first_and _ _ _ (rw e at fit.shape) in
+      let inside : is_in (between 1 4294967295) (number line 0) ≡ true =
+      subst (λ (k : Keyword). is_in (between 1 4294967295) (get_or (numbers_behind k line.words) 0 0) ≡ true) (sym e) (one_in (between 1 4294967295) line.words filled (in_ranges line (keyword.Setup Clock) e fit)) in
+      let same : capped (number line 0) ≡ number line 0 = capped_low (number line 0) (low_in 1 4294967295 (number line 0) refl inside) in
+      record { range = rw (same, inside) refl; same = same }
+
+  tells-cpu : line.keyword ≡ keyword.Setup Cpu → Tells line Cpu
+  tells-cpu e =
+      let filled : nat_le 1 (length line.words) ≡ true = first_and _ _ _ (rw e at fit.shape) in
+      let inside : is_in (between 1 4294967295) (number line 0) ≡ true =
+      subst (λ (k : Keyword). is_in (between 1 4294967295) (get_or (numbers_behind k line.words) 0 0) ≡ true) (sym e) (one_in (between 1 4294967295) line.words filled (in_ranges line (keyword.Setup Cpu) e fit)) in
+      let same : capped (number line 0) ≡ number line 0 = capped_low (number line 0) (low_in 1 4294967295 (number line 0) refl inside) in
+      record { range = rw (same, inside) refl; same = same }
+
+  tells-base : line.keyword ≡ keyword.Setup Base → Tells line Base
+  tells-base e =
+      let filled : nat_le 1 (length line.words) ≡ true = first_and _ _ _ (rw e at fit.shape) in
+      let inside : is_in (between 0 4294967295) (number line 0) ≡ true =
+      subst (λ (k : Keyword). is_in (between 0 4294967295) (get_or (numbers_behind k line.words) 0 0) ≡ true) (sym e) (one_in (between 0 4294967295) line.words filled (in_ranges line (keyword.Setup Base) e fit)) in
+      let same : capped (number line 0) ≡ number line 0 = capped_low (number line 0) (low_in 0 4294967295 (number line 0) refl inside) in
+      record { range = rw (same, inside) refl; same = same }
+
+  tells-shift : line.keyword ≡ keyword.Setup Shift → Tells line Shift
+  tells-shift e =
+      let filled : nat_le 1 (length line.words) ≡ true = first_and _ _ _ (rw e at fit.shape) in
+      let inside : is_in (between 0 31) (number line 0) ≡ true =
+      subst (λ (k : Keyword). is_in (between 0 31) (get_or (numbers_behind k line.words) 0 0) ≡ true) (sym e) (one_in (between 0 31) line.words filled (in_ranges line (keyword.Setup Shift) e fit)) in
+      let same : capped (number line 0) ≡ number line 0 = capped_low (number line 0) (low_in 0 31 (number line 0) refl inside) in
+      record { range = rw (same, inside) refl; same = same }
+
+  pub tells : (word : SetupWord) → line.keyword ≡ keyword.Setup word → is_later line.keyword ≡ false → (word ≡ setup.Task → ⊥) → Tells line word
+  tells Ring e now other = tells-ring e
+  tells Clock e now other = tells-clock e
+  tells Cpu e now other = tells-cpu e
+  tells Base e now other = tells-base e
+  tells Shift e now other = tells-shift e
+  tells setup.Task e now other = absurd (other refl)
+  tells Time e now other = absurd (let l : true ≡ false = (rw e at now) in cc)
+  tells Desc e now other = absurd (let l : true ≡ false = (rw e at now) in cc)
+  tells Module e now other = absurd (let l : true ≡ false = (rw e at now) in cc)
+  tells Command e now other = absurd (let l : true ≡ false = (rw e at now) in cc)
+
+-- a draft with one more setting
+module _ (old : Draft) (lines : List Line) (line : Line) (stands : Stands old lines) (passed : Passes lines line) where
+  told_as : (word : SetupWord) → line.keyword ≡ keyword.Setup word → is_later line.keyword ≡ false → (word ≡ setup.Task → ⊥) → Stands (record old { settings = tell word (number line 0) old.settings }) (lines ++ line ∷ [])
+  told_as Ring e now other = stands-ring old lines line stands passed e
+  told_as Clock e now other = stands-clock old lines line stands passed e
+  told_as Cpu e now other = stands-cpu old lines line stands passed e
+  told_as Base e now other = stands-base old lines line stands passed e
+  told_as Shift e now other = stands-shift old lines line stands passed e
+  told_as setup.Task e now other = absurd (other refl)
+  told_as Time e now other = absurd (let l : true ≡ false = (rw e at now) in cc)
+  told_as Desc e now other = absurd (let l : true ≡ false = (rw e at now) in cc)
+  told_as Module e now other = absurd (let l : true ≡ false = (rw e at now) in cc)
+  told_as Command e now other = absurd (let l : true ≡ false = (rw e at now) in cc)
+
+  pub told : (word : SetupWord) → line.keyword ≡ keyword.Setup word → is_later line.keyword ≡ false → (word ≡ setup.Task → ⊥) → Stands (record old { settings = tell word (capped (number line 0)) old.settings }) (lines ++ line ∷ [])
+  told word e now other =
+      subst (λ (n : ℕ). Stands (record old { settings = tell word n old.settings }) (lines ++ line ∷ [])) (sym (tells line (fit_of lines line passed) word e now other).same) (told_as word e now other)
+
+second_false : (a b : Bool) → a ≡ true → (a && b) ≡ false → b ≡ false
+second_false true b t e = e
+second_false false b t e = cc
+
+-- a writer's number is small, since the writer is there
+module _ (old : Draft) (lines : List Line) (line : Line) (stands : Stands old lines) (passed : Passes lines line) (few : length old.scripts ≤ 16) (fit : IsFit line) where
+  low_step : line.keyword ≡ keyword.Turn turn.Step → number line 0 < 2 ^ 32
+  low_step e =
+      let turn : says (keyword.Turn turn.Step) line ≡ true = rw e refl in
+      let left : number line 0 < count keyword.Writer lines = fewer (count keyword.Writer lines) (number line 0) (second_false _ _ turn passed.writer) in
+      omega (arith, left, few, ap length stands.scripts, as_many lines)
+
+  low_read : line.keyword ≡ keyword.Turn turn.Read → number line 0 < 2 ^ 32
+  low_read e =
+      let filled : nat_le 1 (length line.words) ≡ true = first_and _ _ _ (rw e at fit.shape) in
+      let inside : is_in (between 1 65536) (number line 0) ≡ true =
+      subst (λ (k : Keyword). is_in (between 1 65536) (get_or (numbers_behind k line.words) 0 0) ≡ true) (sym e) (one_in (between 1 65536) line.words filled (in_ranges line (keyword.Turn turn.Read) e fit)) in
+      low_in 1 65536 (number line 0) refl inside
+
+  pub low_turn : (word : TurnWord) → line.keyword ≡ keyword.Turn word → is_later line.keyword ≡ false → number line 0 < 2 ^ 32
+  low_turn turn.Step e now = low_step e
+  low_turn turn.Read e now = low_read e
+  low_turn turn.Send e now = absurd (let l : true ≡ false = (rw e at now) in cc)

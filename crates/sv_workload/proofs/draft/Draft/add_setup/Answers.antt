@@ -1,0 +1,41 @@
+use Rattle.std.proofs.Common.{◌≡◌, ℕ, [], ◌∷◌, ◌++◌, true, sym, ap, subst, ◌∙◌}
+use Rattle.std.specs.List.{list_all}
+use Rattle.std.proofs.lemmas.Result.{on_ok_weaker}
+use Rattle.sv_workload.specs.declared.load.Task.{Task}
+use Rattle.sv_workload.specs.declared.keyword.Keyword.TheVariants.{Setup}
+use Rattle.sv_workload.specs.Forms.{is_in, form_of}
+use Rattle.sv_workload.specs.Settings.{tell}
+use Rattle.sv_workload.specs.Meaning.{task_of}
+use Rattle.sv_workload.specs.Draft.{Draft, Stands}
+use Rattle.sv_workload.proofs.Passed.{passes}
+use Rattle.sv_workload.proofs.Growing.{stands-task}
+use Rattle.sv_workload.proofs.Rooms.{fit_of, room_for_task, tells, told}
+use Rattle.sv_workload.proofs.draft.Draft.add_setup.Goals as goal
+
+pub add_task-requires : goal.add_task-requires
+add_task-requires c =
+    let good = c.requires.good in
+    room_for_task c.args.self.now good.0 c.args.line.now good.1 (passes good.0 c.args.line.now good.2) (c.requires.keyword ∙ ap Setup c.in-Task.is)
+
+pub add_setting-requires : goal.add_setting-requires
+add_setting-requires c =
+    let good = c.requires.good in
+    let line = c.args.line.now in
+    let told_now = tells line (fit_of good.0 line (passes good.0 line good.2)) c.args.word c.requires.keyword c.requires.known c.in_default.not-Task in
+    subst (λ (n : ℕ). list_all (λ range. is_in range n) (form_of (Setup c.args.word)).numbers ≡ true) (sym (c.first_number.ensures line c.requires.numbers)) told_now.range
+
+pub returns-in_ok-task-in-Task : goal.returns-in_ok-task-in-Task
+returns-in_ok-task-in-Task c =
+    let line = c.args.line.now in
+    let e = c.requires.keyword ∙ ap Setup c.in-Task.is in
+    on_ok_weaker c.add_task.result (λ now lines stands none.
+    let passed = passes lines line none in
+    let task : c.in_ok-task-in-Task.task ≡ task_of line = c.in_ok-task-in-Task.ensures line e (fit_of lines line passed) c.requires.numbers c.text_behind.ensures in
+    let new : c.add_task.new.self ≡ record c.args.self.now { tasks = c.args.self.now.tasks ++ task_of line ∷ [] } = now ∙ ap (λ (t : Task). record c.args.self.now { tasks = c.args.self.now.tasks ++ t ∷ [] }) task in
+    subst (λ (d : Draft). Stands d (lines ++ line ∷ [])) (sym new) (stands-task c.args.self.now lines line stands passed e)) c.add_task.ensures
+
+pub returns-in_default : goal.returns-in_default
+returns-in_default c = λ lines stands none.
+    let line = c.args.line.now in
+    let new = c.add_setting.ensures ∙ ap (λ (n : ℕ). record c.args.self.now { settings = tell c.args.word n c.args.self.now.settings }) (c.first_number.ensures line c.requires.numbers) in
+    subst (λ (d : Draft). Stands d (lines ++ line ∷ [])) (sym new) (told c.args.self.now lines line stands (passes lines line none) c.args.word c.requires.keyword c.requires.known c.in_default.not-Task)

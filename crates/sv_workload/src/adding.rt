@@ -1,0 +1,155 @@
+//! What a line without a fault adds to a draft.
+ghost use Rattle.std.specs.Prelude.{◌≡◌, ◌≤◌, ◌<◌, ◌∷◌, ◌++◌, [], true, false, length, map, OnOk};
+ghost use Rattle.std.specs.List.{list_all};
+ghost use Rattle.sv_workload.specs.declared.keyword.Keyword.{Keyword};
+ghost use Rattle.sv_workload.specs.declared.keyword.Keyword.TheVariants.{Setup, Act, Turn};
+ghost use Rattle.sv_workload.specs.Forms.{is_in, form_of};
+ghost use Rattle.sv_workload.specs.Line.{numbers_of};
+ghost use Rattle.sv_workload.specs.Numbers.{capped};
+ghost use Rattle.sv_workload.specs.Need.{one_if, is_start_act, IsStepAct};
+ghost use Rattle.sv_workload.specs.Settings.{tell};
+ghost use Rattle.sv_workload.specs.Scripts.{onto_last, over_scripts};
+ghost use Rattle.sv_workload.specs.Draft.{IsGoodBehind, HasTaken, is_later};
+
+use crate::cutting::CutLine;
+use crate::draft::Draft;
+use crate::form::Form;
+use crate::keyword::{ActWord, Keyword, SetupWord};
+use crate::load::{Action, Step, Task};
+use crate::making::{action, step, task};
+use crate::places::first_number;
+use crate::texting::text_behind;
+use std::alloc::Global;
+use sv_prim::NoMemory;
+
+impl Draft {
+    fn add_setting(&mut self, word: SetupWord, n: u32)
+        requires { list_all (λ range. is_in range n) (form_of (Setup word)).numbers ≡ true }
+        ensures { self.new ≡ record self.old { settings = tell word n self.old.settings } }
+    {
+        self.settings.tell(word, n);
+    }
+
+    fn add_task(&mut self, task: Task) -> Result<(), NoMemory>
+        requires { length self.old.tasks < 32 }
+        ensures { OnOk result (self.new ≡ record self.old { tasks = self.old.tasks ++ task ∷ [] }) }
+    {
+        if self.tasks.push(task).is_err() {
+            return Err(NoMemory);
+        }
+        Ok(())
+    }
+
+    fn add_writer(&mut self, alloc: Global) -> Result<(), NoMemory>
+        requires { length self.old.scripts < 16 }
+        ensures { OnOk result (self.new ≡ record self.old { scripts = self.old.scripts ++ [] ∷ [] }) }
+    {
+        self.scripts.open(alloc)
+    }
+
+    fn add_step(&mut self, step: Step) -> Result<(), NoMemory>
+        requires writer { 0 < length self.old.scripts }
+        requires steps { over_scripts (λ s. 1) self.old.scripts < 1048576 }
+        requires starts { is_start_act step.act ≡ true → over_scripts (λ s. one_if (is_start_act s.act)) self.old.scripts < 256 }
+        requires advance { step.advance ≤ 8589934592 }
+        requires act { IsStepAct step.act }
+        ensures { OnOk result (self.new ≡ record self.old { scripts = onto_last step self.old.scripts }) }
+    {
+        self.scripts.push(step)
+    }
+
+    fn add_schedule(&mut self)
+        ensures { self.new ≡ record self.old { scheduled = true } }
+    {
+        self.scheduled = true;
+    }
+
+    fn add_turn(&mut self, action: Action) -> Result<(), NoMemory>
+        ensures { OnOk result (self.new ≡ record self.old { schedule = self.old.schedule ++ action ∷ [] }) }
+    {
+        if self.schedule.push(action).is_err() {
+            return Err(NoMemory);
+        }
+        Ok(())
+    }
+
+    /// Adds what a line about the target or a task says.
+    fn add_setup(
+        &mut self,
+        alloc: Global,
+        line: &CutLine<'_>,
+        word: SetupWord,
+        form: &Form,
+        numbers: &[u32],
+    ) -> Result<(), NoMemory>
+        requires keyword { line.now.keyword ≡ Setup word }
+        requires form { form.now ≡ form_of line.now.keyword }
+        requires numbers { numbers.now ≡ map capped (numbers_of line.now) }
+        requires known { is_later line.now.keyword ≡ false }
+        requires good { IsGoodBehind self.old line.now }
+        ensures { OnOk result (HasTaken self.old self.new line.now) }
+    {
+        match word {
+            SetupWord::Task => {
+                let task = task(alloc, numbers, text_behind(line, form))?;
+                self.add_task(task)
+            }
+            _ => {
+                self.add_setting(word, first_number(numbers));
+                Ok(())
+            }
+        }
+    }
+
+    /// Adds a step to the writer that was named last.
+    fn add_act(
+        &mut self,
+        alloc: Global,
+        line: &CutLine<'_>,
+        word: ActWord,
+        form: &Form,
+        numbers: &[u32],
+    ) -> Result<(), NoMemory>
+        requires keyword { line.now.keyword ≡ Act word }
+        requires form { form.now ≡ form_of line.now.keyword }
+        requires numbers { numbers.now ≡ map capped (numbers_of line.now) }
+        requires good { IsGoodBehind self.old line.now }
+        ensures { OnOk result (HasTaken self.old self.new line.now) }
+    {
+        let text = text_behind(line, form);
+        let base = self.settings.base();
+        let shift = self.settings.shift();
+        let step = step(alloc, line, word, numbers, text, base, shift)?;
+        self.add_step(step)
+    }
+
+    /// Adds what a line without a fault says. Memory is taken for what is kept of it alone.
+    pub fn add(
+        &mut self,
+        alloc: Global,
+        line: &CutLine<'_>,
+        form: &Form,
+        numbers: &[u32],
+    ) -> Result<(), NoMemory>
+        requires form { form.now ≡ form_of line.now.keyword }
+        requires numbers { numbers.now ≡ map capped (numbers_of line.now) }
+        requires known { is_later line.now.keyword ≡ false }
+        requires good { IsGoodBehind self.old line.now }
+        ensures { OnOk result (HasTaken self.old self.new line.now) }
+    {
+        match line.keyword {
+            Keyword::Setup(word) => self.add_setup(alloc, line, word, form, numbers),
+            Keyword::Writer => self.add_writer(alloc),
+            Keyword::Act(word) => self.add_act(alloc, line, word, form, numbers),
+            Keyword::Schedule => {
+                self.add_schedule();
+                Ok(())
+            }
+            Keyword::Turn(word) => {
+                let _ = &self.schedule;
+                self.add_turn(action(word, numbers))
+            }
+            Keyword::Unknown => Ok(()),
+        }
+    }
+}

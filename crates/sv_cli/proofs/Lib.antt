@@ -1,6 +1,9 @@
 pub mod Parts
 pub mod Sections
 pub mod OneWriter
+pub mod Heads
+pub mod TurnsTold
+pub mod OriginsTold
 pub mod Made
 pub mod Alone
 pub mod Stopped

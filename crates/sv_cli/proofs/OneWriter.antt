@@ -1,5 +1,5 @@
 -- Runs of one writer with no schedule and no commands: a section for each step, and the host reads everything behind each.
-use Rattle.std.proofs.Common.{◌≡◌, ℕ, zero, suc, ◌+◌, ◌-◌, ◌<◌, ◌≤◌, Bool, true, false, not, ◌&&◌, ◌||◌, cond, None, List, [], ◌∷◌, ◌++◌, length, reverse, replicate, map, filter, All, flat_map, refl, sym, ap, ◌∙◌, subst, inl, inr, arith, rules, append_assoc, append-nil, add-one}
+use Rattle.std.proofs.Common.{◌≡◌, ℕ, zero, suc, ◌+◌, ◌-◌, ◌<◌, ◌≤◌, Bool, true, false, not, ◌&&◌, ◌||◌, cond, None, List, [], ◌∷◌, ◌++◌, length, reverse, replicate, map, filter, All, flat_map, refl, sym, ap, ◌∙◌, subst, inl, inr, arith, rules, append_assoc, append-nil, add-one, zero-add}
 use Rattle.std.specs.Prelude.{count_by, sum_by, slice_index_or, take_while, take, nat_lt, if◌then◌else◌}
 use Rattle.std.specs.List.{list_any}
 use Rattle.std.proofs.lemmas.List.{reverse-append, map-append, append_cancel_left, nil_from_length, replicate_more}
@@ -34,8 +34,13 @@ lt_true m n h = search (rules, h)
 lt_false : (m n : ℕ) → n ≤ m → nat_lt m n ≡ false
 lt_false m n h = search (rules, h)
 
-count-cons : {X : Type 0} (p : X → Bool) (x : X) (xs : List X) → count_by p (x ∷ xs) ≡ cond (p x) 1 0 + count_by p xs
+-- how many pass, with one element more
+pub count-cons : {X : Type 0} (p : X → Bool) (x : X) (xs : List X) → count_by p (x ∷ xs) ≡ cond (p x) 1 0 + count_by p xs
 count-cons p x xs = sum_by-cons (λ y. cond (p y) 1 0) x xs
+
+-- what does not pass is not counted
+pub count-not : {X : Type 0} (p : X → Bool) (x : X) (xs : List X) → p x ≡ false → count_by p (x ∷ xs) ≡ count_by p xs
+count-not p x xs h = count-cons p x xs ∙ (ap (λ b. cond b 1 0 + count_by p xs) h ∙ zero-add (count_by p xs))
 
 -- THE ORDER
 
@@ -114,11 +119,12 @@ ordered_back load items (suc n) =
 -- WHAT STANDS BEFORE A NUMBER
 
 -- all that stands, where it has no more than the number
-before_number-all : {X : Type 0} (p : X → Bool) (number : ℕ) (xs : List X) → count_by p xs ≤ number → before_number p number xs ≡ xs
+pub before_number-all : {X : Type 0} (p : X → Bool) (number : ℕ) (xs : List X) → count_by p xs ≤ number → before_number p number xs ≡ xs
 before_number-all p number [] h = refl
 before_number-all p number (x ∷ xs) h = ap (λ b. cond b (before_number p number xs) (x ∷ xs)) (lt_false number (count_by p (x ∷ xs)) h)
 
-before_number-more : {X : Type 0} (p : X → Bool) (number : ℕ) (x : X) (xs : List X) → number < count_by p (x ∷ xs) → before_number p number (x ∷ xs) ≡ before_number p number xs
+-- the first element goes, where more than the number pass
+pub before_number-more : {X : Type 0} (p : X → Bool) (number : ℕ) (x : X) (xs : List X) → number < count_by p (x ∷ xs) → before_number p number (x ∷ xs) ≡ before_number p number xs
 before_number-more p number x xs h = ap (λ b. cond b (before_number p number xs) (x ∷ xs)) (lt_true number (count_by p (x ∷ xs)) h)
 
 -- the turns before a step
@@ -158,7 +164,8 @@ abbrev pub section_start : List Item → List Item
 section_start [] = []
 section_start (i ∷ earlier) = if is_call i.origin then earlier else section_start earlier
 
-abbrev calls_in : List Item → ℕ
+-- how many calls there are
+abbrev pub calls_in : List Item → ℕ
 calls_in items = count_by (λ i. is_call i.origin) items
 
 -- an item of a section that began when the host had read everything; an overflow's is told by the item after it
@@ -177,7 +184,8 @@ pub record IsUnderWay (load : Load) (items : List Item) (done : ℕ) : Type 0 wh
 pub under_way-none : (load : Load) → IsUnderWay load [] 0
 under_way-none load = record { turns = refl; calls = refl; own = refl; fresh = tt }
 
-calls-cons : (i : Item) (earlier : List Item) → calls_in (i ∷ earlier) ≡ cond (is_call i.origin) 1 0 + calls_in earlier
+-- the calls with one item more
+pub calls-cons : (i : Item) (earlier : List Item) → calls_in (i ∷ earlier) ≡ cond (is_call i.origin) 1 0 + calls_in earlier
 calls-cons i earlier = count-cons (λ (j : Item). is_call j.origin) i earlier
 
 -- the latest section's start is what stands before the latest call's number
@@ -192,14 +200,16 @@ start_is j (x ∷ xs) h = elim (is_call x.origin) as (λ b. is_call x.origin ≡
       before_number-more (λ (i : Item). is_call i.origin) j x xs (omega (arith, h)) ∙ start_is j xs same
 ] refl
 
-not_head : (o : Origin) → is_overflow o ≡ true → is_head o ≡ false
+-- an overflow begins no group
+pub not_head : (o : Origin) → is_overflow o ≡ true → is_head o ≡ false
 not_head (Call writer step) h = cc
 not_head Sync h = cc
 not_head (Reply kind index) h = cc
 not_head (Overflow count) h = refl
 not_head (Command byte param) h = cc
 
-no_packet : (o : Origin) (outcome : Outcome) → is_overflow o ≡ true → holds_packet o outcome ≡ false
+-- an overflow is no packet of its own
+pub no_packet : (o : Origin) (outcome : Outcome) → is_overflow o ≡ true → holds_packet o outcome ≡ false
 no_packet (Call writer step) outcome h = cc
 no_packet Sync outcome h = cc
 no_packet (Reply kind index) outcome h = cc
@@ -366,10 +376,12 @@ all_go_on load items (i ∷ rest) done freed u some from behind all answers =
     (All-tail (λ (j : Item). j.freed ≡ freed) i rest all)
     (All-tail IsAnswer i rest answers))
 
-origins_of-append : (items more : List Item) → origins_of (items ++ more) ≡ origins_of items ++ origins_of more
+-- the origins of two lists of items
+pub origins_of-append : (items more : List Item) → origins_of (items ++ more) ≡ origins_of items ++ origins_of more
 origins_of-append items more = ap (filter (λ o. not (is_overflow o))) (map-append (λ (i : Item). i.origin) items more) ∙ filter-append (λ o. not (is_overflow o)) (map (λ (i : Item). i.origin) items) (map (λ (i : Item). i.origin) more)
 
-origins_of-cons : (i : Item) (more : List Item) → is_overflow i.origin ≡ false → origins_of (i ∷ more) ≡ i.origin ∷ origins_of more
+-- the origins with one more in front
+pub origins_of-cons : (i : Item) (more : List Item) → is_overflow i.origin ≡ false → origins_of (i ∷ more) ≡ i.origin ∷ origins_of more
 origins_of-cons i more other = ap (λ b. cond (not b) (i.origin ∷ origins_of more) (origins_of more)) other
 
 abbrev groups_of : Load → List Origin → List Origin
@@ -427,7 +439,7 @@ call_more load items rest c done step freed os u from behind other group heads a
       tails_same a b os more e = cc
 
 -- what holds of each item of a longer journal
-each-front : (P : List Item → Item → Type 0) (xs ys : List Item) → EachItem P (xs ++ ys) → EachItem P ys
+pub each-front : (P : List Item → Item → Type 0) (xs ys : List Item) → EachItem P (xs ++ ys) → EachItem P ys
 each-front P [] ys each = each
 each-front P (x ∷ xs) ys each = each-front P xs ys each.0
 
@@ -448,7 +460,8 @@ not_two load items o p e f next =
     let both : true ≡ false = sym e ∙ (here.overflow ∙ owes) in
     cc
 
-alone : (earlier : List Item) → is_after_overflow earlier ≡ false → before_overflow earlier ≡ earlier
+-- where no overflow stands directly before, nothing is left out
+pub alone : (earlier : List Item) → is_after_overflow earlier ≡ false → before_overflow earlier ≡ earlier
 alone [] h = refl
 alone (i ∷ earlier) h = ap (λ b. cond b earlier (i ∷ earlier)) h
 

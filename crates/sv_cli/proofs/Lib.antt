@@ -4,6 +4,7 @@ pub mod OneWriter
 pub mod Heads
 pub mod TurnsTold
 pub mod OriginsTold
+pub mod OneJournal
 pub mod Made
 pub mod Alone
 pub mod Stopped

@@ -11,6 +11,7 @@ mod draining;
 mod errors;
 mod fault;
 mod feeding;
+mod laws;
 mod reading;
 mod recording;
 mod showing;
@@ -19,6 +20,7 @@ mod telling;
 
 pub use commands::offline;
 pub use errors::tell;
+pub use laws::simulated_once;
 pub use status::Status;
 
 #[cfg(test)]

@@ -26,10 +26,11 @@ use Rattle.sv_workload.specs.Settings.{tell, base_told, shift_told}
 use Rattle.sv_workload.specs.Scripts.{over_scripts}
 use Rattle.sv_workload.specs.Fit.{IsFit}
 use Rattle.sv_workload.specs.Meaning.{says, those, count, number, task_of, act_of, with_shrunk, step_by, base_of, shift_of}
-use Rattle.sv_workload.specs.Checks.{count_of, is_step, is_all_there, is_within, are_within}
+use Rattle.sv_workload.specs.Checks.{count_of, is_step, is_turn, is_all_there, is_within, are_within}
 use Rattle.sv_workload.specs.Draft.{Draft, Stands, is_later}
 use Rattle.sv_workload.proofs.Capping.{number_or_0, numbers_behind, capped_low, in_ranges}
 use Rattle.sv_workload.proofs.Passed.{Passes}
+use Rattle.sv_workload.proofs.Standing.{turns_count}
 use Rattle.sv_workload.proofs.Growing.{as_many, neither, start_word, stands-ring, stands-clock, stands-cpu, stands-base, stands-shift}
 
 pub fit_of : (lines : List Line) (line : Line) → Passes lines line → IsFit line
@@ -92,6 +93,11 @@ module _ (old : Draft) (lines : List Line) (line : Line) (stands : Stands old li
       let same : is_same (keyword.Act Start) (keyword.Act word) ≡ true = sym (ap is_start_act act ∙ start_word word ns (text_of line)) ∙ starts in
       let left : count (keyword.Act Start) lines < 256 = fewer 256 (count (keyword.Act Start) lines) ((acts_left lines word (rw e at passed.few)).1 same) in
       omega (arith, left, stands.starts)
+
+  pub room_for_turn : (word : TurnWord) → line.keyword ≡ keyword.Turn word → length old.schedule < 1048576
+  room_for_turn word e =
+      let left : count_of is_turn lines < 1048576 = fewer 1048576 (count_of is_turn lines) (rw e at passed.few) in
+      omega (arith, left, ap length stands.schedule, turns_count lines)
 
   pub base_is : base_told old.settings ≡ base_of lines
   base_is = ap base_told stands.settings

@@ -25,11 +25,12 @@ pub record Draft : Type 0 where
   pub scheduled : Bool
   pub schedule : List Action
 
--- the settings are of their ranges, and the tasks and writers are few
-pub record IsSound (settings : Settings) (tasks : List Task) (scripts : List (List Step)) : Type 0 where
+-- the settings are of their ranges, and the tasks, writers and turns are few
+pub record IsSound (settings : Settings) (tasks : List Task) (scripts : List (List Step)) (schedule : List Action) : Type 0 where
   pub ranges : AreInRange settings
   pub few_tasks : length tasks ≤ 32
   pub few_scripts : length scripts ≤ 16
+  pub few_turns : length schedule ≤ 1048576
 
 -- words that no line can have yet
 abbrev pub is_later : Keyword → Bool

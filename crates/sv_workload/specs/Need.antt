@@ -72,6 +72,7 @@ pub record IsWithinLimits (load : Load) : Type 0 where
   pub lines : length load.lines ≤ 4
   pub tasks : length load.tasks ≤ 32
   pub modules : length load.modules ≤ 64
+  pub turns : length load.schedule ≤ 1048576
   pub advances : All (λ script. All (λ s. s.advance ≤ 8589934592) script) load.scripts
   pub acts : All (λ script. All (λ s. IsStepAct s.act) script) load.scripts
 

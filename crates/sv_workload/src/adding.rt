@@ -23,6 +23,7 @@ use std::alloc::Global;
 use sv_prim::NoMemory;
 
 impl Draft {
+    /// One more setting is told.
     fn add_setting(&mut self, word: SetupWord, n: u32)
         requires { list_all (λ range. is_in range n) (form_of (Setup word)).numbers ≡ true }
         ensures { self.new ≡ record self.old { settings = tell word n self.old.settings } }
@@ -30,6 +31,7 @@ impl Draft {
         self.settings.tell(word, n);
     }
 
+    /// One more task, behind the others.
     fn add_task(&mut self, task: Task) -> Result<(), NoMemory>
         requires { length self.old.tasks < 32 }
         ensures { OnOk result (self.new ≡ record self.old { tasks = self.old.tasks ++ task ∷ [] }) }
@@ -40,6 +42,7 @@ impl Draft {
         Ok(())
     }
 
+    /// One more writer, without a step so far.
     fn add_writer(&mut self, alloc: Global) -> Result<(), NoMemory>
         requires { length self.old.scripts < 16 }
         ensures { OnOk result (self.new ≡ record self.old { scripts = self.old.scripts ++ [] ∷ [] }) }
@@ -47,6 +50,7 @@ impl Draft {
         self.scripts.open(alloc)
     }
 
+    /// One more step for the writer that was named last.
     fn add_step(&mut self, step: Step) -> Result<(), NoMemory>
         requires writer { 0 < length self.old.scripts }
         requires steps { over_scripts (λ s. 1) self.old.scripts < 1048576 }
@@ -58,13 +62,16 @@ impl Draft {
         self.scripts.push(step)
     }
 
+    /// There is a schedule from now on.
     fn add_schedule(&mut self)
         ensures { self.new ≡ record self.old { scheduled = true } }
     {
         self.scheduled = true;
     }
 
+    /// One more turn, behind the others.
     fn add_turn(&mut self, action: Action) -> Result<(), NoMemory>
+        requires { length self.old.schedule < 1048576 }
         ensures { OnOk result (self.new ≡ record self.old { schedule = self.old.schedule ++ action ∷ [] }) }
     {
         if self.schedule.push(action).is_err() {

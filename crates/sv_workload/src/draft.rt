@@ -23,7 +23,7 @@ impl Model for Draft {
 
     ghost view = { λ d. record { settings = d.settings; tasks = d.tasks.items; scripts = d.scripts; scheduled = d.scheduled; schedule = d.schedule.items } };
 
-    ghost invariant = { λ d. IsSound d.settings d.tasks.items d.scripts };
+    ghost invariant = { λ d. IsSound d.settings d.tasks.items d.scripts d.schedule.items };
 }
 
 impl Draft {

@@ -1,4 +1,10 @@
 //! Workloads: what the writers of a run do, and in which order.
+//!
+//! `parse` reads a text by its `lines`. A line is cut at its spaces (`cutting`), and its `keyword` says
+//! which `form` it has. Its own words come first: how many there are (`shaping`), the numbers among
+//! them (`numbering`) and its text (`texting`). Then it is checked against the `draft` of the lines
+//! before it (`checking`). A line without a fault makes a step, a task or a turn (`making`), which is
+//! added to the draft (`adding`).
 #![tactic(auto)]
 
 mod acting;

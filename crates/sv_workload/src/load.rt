@@ -7,16 +7,21 @@ use crate::settings::Settings;
 use std::alloc::Global;
 use std::marker::Model;
 use sv_packet::Event;
-use sv_prim::{Bytes, NoMemory};
+use sv_prim::Bytes;
 
 /// A task, with its identifier as the target names it.
 #[derive(Debug, Drop)]
 pub struct Task {
+    /// An address, that is not shrunk yet.
     pub id: u32,
     pub priority: u32,
+    /// The address of its stack.
     pub stack_base: u32,
+    /// The size of its stack in bytes.
     pub stack_size: u32,
+    /// What a target may say more of the stack.
     pub extra: u32,
+    /// At most 32 bytes, all of which can be printed.
     pub name: Bytes,
 }
 
@@ -27,7 +32,7 @@ pub struct Command {
     pub param: u8,
 }
 
-/// What a step does.
+/// What a step does: it records an event, or starts or stops the recorder.
 #[derive(Debug, Drop)]
 pub enum Act {
     Event(Event),
@@ -35,9 +40,10 @@ pub enum Act {
     Stop,
 }
 
-/// A step of a writer, and the ticks that pass before it.
+/// A step of a writer.
 #[derive(Debug, Drop)]
 pub struct Step {
+    /// The ticks that pass before it, at most 2^33.
     pub advance: u64,
     pub act: Act,
 }
@@ -45,8 +51,11 @@ pub struct Step {
 /// A line of the schedule.
 #[derive(Debug, Clone, Copy, PartialEq, Eq, Drop)]
 pub enum Action {
+    /// So many steps of a writer, 1 to 1048576. Writers are counted from 0.
     Step { writer: u32, count: u32 },
+    /// The host takes so many bytes at most, 1 to 65536.
     Read { most: u32 },
+    /// The host sends its next command.
     Send,
 }
 
@@ -136,7 +145,7 @@ impl Workload {
         self.ring
     }
 
-    /// The frequency of the system, at least 1.
+    /// The frequency of the clock whose periods are the ticks, in Hz, at least 1.
     pub fn clock(&self) -> u32
         ensures told { result ≡ self.now.clock }
         ensures least { 1 ≤ result }
@@ -144,7 +153,7 @@ impl Workload {
         self.clock
     }
 
-    /// The frequency of the processor, at least 1.
+    /// The frequency of the processor in Hz, at least 1.
     pub fn cpu(&self) -> u32
         ensures told { result ≡ self.now.cpu }
         ensures least { 1 ≤ result }
@@ -152,7 +161,7 @@ impl Workload {
         self.cpu
     }
 
-    /// What identifiers are counted from.
+    /// The address that identifiers are counted from.
     pub fn base(&self) -> u32
         ensures { result ≡ self.now.base }
     {
@@ -181,8 +190,10 @@ impl Workload {
         self.lines.as_slice()
     }
 
+    /// The tasks that are there from the beginning, at most 32.
     pub fn tasks(&self) -> &[Task]
-        ensures { result.now ≡ self.now.tasks }
+        ensures told { result.now ≡ self.now.tasks }
+        ensures few { length result.now ≤ 32 }
     {
         self.tasks.as_slice()
     }
@@ -194,7 +205,7 @@ impl Workload {
         self.commands.as_slice()
     }
 
-    /// How many writers there are.
+    /// How many writers there are, at most 16.
     pub fn writers(&self) -> u32
         ensures count { result ≡ length self.now.scripts }
         ensures limits { IsWithinLimits self.now }
@@ -217,9 +228,10 @@ impl Workload {
         self.scheduled
     }
 
-    /// The lines of the schedule, in order.
+    /// The lines of the schedule, in order, at most 1048576.
     pub fn schedule(&self) -> &[Action]
-        ensures { result.now ≡ self.now.schedule }
+        ensures told { result.now ≡ self.now.schedule }
+        ensures few { length result.now ≤ 1048576 }
     {
         self.schedule.as_slice()
     }

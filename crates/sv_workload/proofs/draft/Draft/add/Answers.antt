@@ -4,7 +4,7 @@ use Rattle.sv_workload.specs.Line.{Line}
 use Rattle.sv_workload.specs.Draft.{Draft, Stands}
 use Rattle.sv_workload.proofs.Passed.{passes}
 use Rattle.sv_workload.proofs.Growing.{stands-writer, stands-schedule, stands-turn}
-use Rattle.sv_workload.proofs.Rooms.{fit_of, room_for_writer, low_turn}
+use Rattle.sv_workload.proofs.Rooms.{fit_of, room_for_writer, room_for_turn, low_turn}
 use Rattle.sv_workload.proofs.draft.Draft.add.Goals as goal
 
 pub add_writer-requires : goal.add_writer-requires
@@ -34,3 +34,8 @@ returns-in-Turn c =
     let passed = passes lines line none in
     let made = c.action.ensures line e (fit_of lines line passed) (low_turn c.args.self.now lines line stands passed few (fit_of lines line passed) c.in-Turn.word e c.requires.known) c.requires.numbers in
     subst (λ (d : Draft). Stands d (lines ++ line ∷ [])) (sym now) (stands-turn c.args.self.now lines line stands passed c.in-Turn.word c.action.result e c.requires.known made)) c.add_turn.ensures
+
+pub add_turn-requires : goal.add_turn-requires
+add_turn-requires c =
+    let good = c.requires.good in
+    room_for_turn c.args.self.now good.0 c.args.line.now good.1 (passes good.0 c.args.line.now good.2) c.in-Turn.word (ap (λ (l : Line). l.keyword) (sym c.line.view_is) ∙ c.in-Turn.is)

@@ -10,7 +10,6 @@ pub mod Alone
 pub mod Stopped
 pub mod NotStopped
 pub mod Narrow
-pub mod Rings
 pub mod Runnable
 pub mod Playing
 pub mod Keywords

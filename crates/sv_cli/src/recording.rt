@@ -95,7 +95,6 @@ fn play(recorder: &mut Recorder<'_, PlainRing>)
 fn simulate(alloc: Global, load: &Workload) -> Result<Finished<PlainRing>, NoMemory>
     requires built { built load.now ≡ true }
     requires plain { IsPlain load.now }
-    requires ring { load.now.ring ≤ 65536 }
     ensures simulated { IfOk result (λ run. IsSimulated load.now run.journal.items) }
     ensures sent { IfOk result (λ run. run.up.sent ≡ stream_of load.now run.journal.items) }
 {
@@ -125,7 +124,6 @@ fn record_load<K: Sink>(
 ) -> Status
     requires built { built load.now ≡ true }
     requires plain { IsPlain load.now }
-    requires ring { load.now.ring ≤ 65536 }
     requires empty { journal.old.items ≡ [] }
     ensures told { IsPlayed load.now (K.written out.old) (K.written out.new) journal.new.items result }
     ensures fault { result ≡ Status.WriteFault → Rose (K.faults out.old) (K.faults out.new) }

@@ -1,13 +1,9 @@
 use Rattle.std.proofs.Common.{◌∙◌, sym}
-use Rattle.sv_cli.proofs.Rings.{ring_within}
 use Rattle.sv_cli.proofs.Runnable.{plain_built, recorded}
 use Rattle.sv_cli.proofs.recording.record_text.Goals as goal
 
 pub record_load-requires-clause-plain : goal.record_load-requires-clause-plain
 record_load-requires-clause-plain g c = plain_built c.in-Ok.load c.in-Ok.ensures.later (sym c.is_built.ensures ∙ c.if-not-is_built.false)
-
-pub record_load-requires-clause-ring : goal.record_load-requires-clause-ring
-record_load-requires-clause-ring g c = ring_within c.args.text.now c.in-Ok.load c.in-Ok.ensures.ok
 
 pub returns-clause-told : goal.returns-clause-told
 returns-clause-told g c =

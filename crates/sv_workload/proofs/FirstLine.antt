@@ -4,7 +4,7 @@ use Rattle.std.specs.Prelude.{position}
 use Rattle.std.specs.List.{slice_split, position_or_len, before_first, after_first}
 use Rattle.std.proofs.lemmas.List.Splits.{slice_split_first, slice_split_none, length-slice_split}
 use Rattle.std.proofs.lemmas.List.Sums.{fails_before_first}
-use Rattle.std.proofs.lemmas.List.{take_rest, drop_all, length-take, length-drop}
+use Rattle.std.proofs.lemmas.List.{take_rest, drop_all, length-drop}
 use Rattle.std.proofs.lemmas.Bool.{ltb-true, ltb-false}
 use Rattle.sv_workload.proofs.Cuts.{none_by, some_by}
 use Rattle.sv_workload.specs.Lines.{without_empty_end, lines_of, IsNext}
@@ -41,7 +41,6 @@ next_at text place e =
     record {
       lines = lines ∙ ap (λ (l : List ℕ). take place text ∷ lines_of l) (sym rest);
       left = omega (arith, len, within);
-      whole = λ some. omega (arith, len, within, length-take place text);
     }
 
 pub next_is_last : (text : List ℕ) → 0 < length text → position is_end text ≡ None → IsNext text text (take (length text - length text) (drop (length text) text))
@@ -51,5 +50,4 @@ next_is_last text some e =
     record {
       lines = lines_last text some far ∙ ap (λ (l : List ℕ). text ∷ lines_of l) (sym rest);
       left = omega (arith, ap length rest, some);
-      whole = λ more. absurd (omega (arith, ap length rest, more));
     }

@@ -1,13 +1,11 @@
 -- What one more line changes in a draft, by its keyword.
-use Rattle.std.proofs.Common.{◌≡◌, ℕ, ◌+◌, ◌<◌, Bool, true, false, cond, ◌||◌, ◌&&◌, not, List, [], ◌∷◌, ◌++◌, length, drop, Option, Some, None, refl, sym, ap, subst, ◌∙◌, nat_lt, arith, rules}
+use Rattle.std.proofs.Common.{◌≡◌, ℕ, ◌+◌, ◌<◌, Bool, true, false, cond, ◌||◌, ◌&&◌, not, List, [], ◌∷◌, ◌++◌, length, Option, Some, None, refl, sym, ap, subst, ◌∙◌, nat_lt, arith, rules}
 use Rattle.std.specs.Prelude.{filter, filter_map, find, option_map}
-use Rattle.std.specs.List.{slice_split}
 use Rattle.std.specs.Option.{option_or}
-use Rattle.std.proofs.lemmas.List.{length-map, length-drop, append-nil, nil_from_length}
+use Rattle.std.proofs.lemmas.List.{append-nil, nil_from_length}
 use Rattle.std.proofs.lemmas.List.Elements.{filter_map-append}
 use Rattle.std.proofs.lemmas.List.Folds.{list_all-append}
 use Rattle.std.proofs.lemmas.List.Sums.{length-filter}
-use Rattle.std.proofs.lemmas.List.Splits.{length-slice_split}
 use Rattle.sv_workload.specs.declared.load.Step.{Step}
 use Rattle.sv_workload.specs.declared.load.Task.{Task}
 use Rattle.sv_workload.specs.declared.load.Action.{Action}
@@ -31,6 +29,7 @@ use Rattle.sv_workload.specs.Checks.{count_of, is_step, sets_identifiers}
 use Rattle.sv_workload.specs.Draft.{Draft, Stands, settings_of, is_later}
 use Rattle.sv_workload.proofs.OneMore.{counted_more, told_more, tasks_more, there_more, parts_by, parts_begin, parts_same, parts_go_on, over_last, over_begun}
 use Rattle.sv_workload.proofs.Passed.{Passes}
+use Rattle.sv_workload.proofs.Standing.{scripts_count}
 
 -- the keyword tells no setting
 pub record TellsNothing (k : Keyword) : Type 0 where
@@ -105,21 +104,15 @@ module _ (lines : List Line) (line : Line) where
   scripts_go_on : (step : Step) → TellsNothing line.keyword → says keyword.Writer line ≡ false → step_of (base_of lines) (shift_of lines) line ≡ Some step → scripts_of (lines ++ line ∷ []) ≡ onto_last step (scripts_of lines)
   scripts_go_on step tells writer some = steps_same tells ∙ parts_go_on (says keyword.Writer) (step_of (base_of lines) (shift_of lines)) line step writer some lines
 
--- as many scripts as writers
-pub as_many : (lines : List Line) → length (scripts_of lines) ≡ count keyword.Writer lines
-as_many lines =
-    length-map (drop 1 (slice_split (says keyword.Writer) lines)) (filter_map (step_of (base_of lines) (shift_of lines)))
-    ∙ omega (arith, length-drop 1 (slice_split (says keyword.Writer) lines), length-slice_split (says keyword.Writer) lines)
-
 counted_none : (n : ℕ) → nat_lt 0 n ≡ false → n ≡ 0
 counted_none n e = search (rules, e)
 
 pub no_scripts : (lines : List Line) → is_there keyword.Writer lines ≡ false → scripts_of lines ≡ []
-no_scripts lines e = nil_from_length (scripts_of lines) (as_many lines ∙ counted_none (count keyword.Writer lines) e)
+no_scripts lines e = nil_from_length (scripts_of lines) (scripts_count lines ∙ counted_none (count keyword.Writer lines) e)
 
 -- a writer is there once it has steps
 pub some_scripts : (lines : List Line) → is_there keyword.Writer lines ≡ true → 0 < length (scripts_of lines)
-some_scripts lines e = omega (arith, as_many lines, counted (count keyword.Writer lines) e)
+some_scripts lines e = omega (arith, scripts_count lines, counted (count keyword.Writer lines) e)
   where
     counted : (n : ℕ) → nat_lt 0 n ≡ true → 0 < n
     counted n e = search (rules, e)

@@ -25,10 +25,6 @@ use Rattle.sv_workload.specs.Checking.{repeats, lacks_writer}
 use Rattle.sv_workload.proofs.Keywords.{none_later}
 use Rattle.sv_workload.proofs.Standing.{told_there, scripts_count}
 
-pub first_capped : (ns : List ℕ) → slice_index (map capped ns) 0 ≡ capped (slice_index ns 0)
-first_capped [] = refl
-first_capped (n ∷ ns) = refl
-
 -- an identifier has 32 bits
 
 identifier_first : (k : Keyword) → (form_of k).identifier ≡ true → (rest : List Range) × ((form_of k).numbers ++ (form_of k).more ≡ word32 ∷ rest)

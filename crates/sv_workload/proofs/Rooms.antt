@@ -2,8 +2,6 @@
 use Rattle.std.proofs.Common.{◌≡◌, ℕ, ◌<◌, ◌≤◌, ◌-◌, ◌^◌, Bool, true, false, ◌||◌, ◌&&◌, not, List, [], ◌∷◌, ◌++◌, length, map, take, get_or, Option, Some, None, refl, sym, ap, subst, ◌∙◌, nat_le, arith}
 use Rattle.std.specs.List.{list_all}
 use Rattle.std.specs.Option.{option_map_or}
-use Rattle.std.proofs.lemmas.List.{length-map}
-use Rattle.std.proofs.lemmas.List.Sums.{length-filter}
 use Rattle.std.proofs.lemmas.Bool.{and_parts, leb-true, leb-false}
 use Rattle.sv_workload.specs.declared.load.Step.{Step}
 use Rattle.sv_workload.specs.declared.range.Range.{Range}
@@ -25,13 +23,13 @@ use Rattle.sv_workload.specs.Need.{one_if, is_start_act}
 use Rattle.sv_workload.specs.Settings.{tell, base_told, shift_told}
 use Rattle.sv_workload.specs.Scripts.{over_scripts}
 use Rattle.sv_workload.specs.Fit.{IsFit}
-use Rattle.sv_workload.specs.Meaning.{says, those, count, number, task_of, act_of, with_shrunk, step_by, base_of, shift_of}
+use Rattle.sv_workload.specs.Meaning.{says, count, number, act_of, with_shrunk, step_by, base_of, shift_of}
 use Rattle.sv_workload.specs.Checks.{count_of, is_step, is_turn, is_all_there, is_within, are_within}
 use Rattle.sv_workload.specs.Draft.{Draft, Stands, is_later}
 use Rattle.sv_workload.proofs.Capping.{number_or_0, numbers_behind, capped_low, in_ranges}
 use Rattle.sv_workload.proofs.Passed.{Passes}
-use Rattle.sv_workload.proofs.Standing.{turns_count}
-use Rattle.sv_workload.proofs.Growing.{as_many, neither, start_word, stands-ring, stands-clock, stands-cpu, stands-base, stands-shift}
+use Rattle.sv_workload.proofs.Standing.{tasks_count, scripts_count, turns_count}
+use Rattle.sv_workload.proofs.Growing.{neither, start_word, stands-ring, stands-clock, stands-cpu, stands-base, stands-shift}
 
 pub fit_of : (lines : List Line) (line : Line) → Passes lines line → IsFit line
 fit_of lines line passed = record { shape = passed.shaped; numbers = passed.numbers; text = passed.text }
@@ -72,12 +70,12 @@ module _ (old : Draft) (lines : List Line) (line : Line) (stands : Stands old li
   pub room_for_task : line.keyword ≡ keyword.Setup setup.Task → length old.tasks < 32
   room_for_task e =
       let left : count (keyword.Setup setup.Task) lines < 32 = fewer 32 (count (keyword.Setup setup.Task) lines) (rw e at passed.few) in
-      omega (arith, left, ap length stands.tasks, length-map (those (keyword.Setup setup.Task) lines) task_of, length-filter (says (keyword.Setup setup.Task)) lines)
+      omega (arith, left, ap length stands.tasks, tasks_count lines)
 
   pub room_for_writer : line.keyword ≡ keyword.Writer → length old.scripts < 16
   room_for_writer e =
       let left : count keyword.Writer lines < 16 = fewer 16 (count keyword.Writer lines) (rw e at passed.few) in
-      omega (arith, left, ap length stands.scripts, as_many lines)
+      omega (arith, left, ap length stands.scripts, scripts_count lines)
 
   pub room_for_step : (word : ActWord) → line.keyword ≡ keyword.Act word → over_scripts (λ s. 1) old.scripts < 1048576
   room_for_step word e =
@@ -207,7 +205,7 @@ module _ (old : Draft) (lines : List Line) (line : Line) (stands : Stands old li
   low_step e =
       let turn : says (keyword.Turn turn.Step) line ≡ true = rw e refl in
       let left : number line 0 < count keyword.Writer lines = fewer (count keyword.Writer lines) (number line 0) (second_false _ _ turn passed.writer) in
-      omega (arith, left, few, ap length stands.scripts, as_many lines)
+      omega (arith, left, few, ap length stands.scripts, scripts_count lines)
 
   low_read : line.keyword ≡ keyword.Turn turn.Read → number line 0 < 2 ^ 32
   low_read e =

@@ -1,5 +1,5 @@
 -- Lines: a text is cut at its line feeds.
-use Rattle.std.specs.Prelude.{◌≡◌, ℕ, ◌+◌, ◌<◌, ◌==◌, Bool, true, List, [], ◌∷◌, length, sum_by}
+use Rattle.std.specs.Prelude.{◌≡◌, ℕ, ◌<◌, ◌==◌, Bool, true, List, [], ◌∷◌, length}
 use Rattle.std.specs.List.{slice_split}
 
 -- behind a last line feed stands no further line
@@ -13,10 +13,6 @@ without_empty_end (line ∷ next ∷ lines) = line ∷ without_empty_end (next �
 abbrev pub lines_of : List ℕ → List (List ℕ)
 lines_of text = without_empty_end (slice_split (λ b. b == 10) text)
 
--- the bytes of these lines, each with its line feed
-abbrev pub bytes_of : List (List ℕ) → ℕ
-bytes_of lines = sum_by (λ line. length line + 1) lines
-
 -- a line that is for the reader alone: it is empty, or begins with `;`
 abbrev pub is_remark : List ℕ → Bool
 is_remark [] = true
@@ -26,4 +22,3 @@ is_remark (b ∷ bytes) = b == 59
 pub record IsNext (text line rest : List ℕ) : Type 0 where
   pub lines : lines_of text ≡ line ∷ lines_of rest
   pub left : length rest < length text
-  pub whole : 0 < length rest → length line + 1 + length rest ≡ length text

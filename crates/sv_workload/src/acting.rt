@@ -9,7 +9,7 @@ ghost use Rattle.sv_workload.specs.Meaning.{act_of, with_shrunk};
 use crate::form::form_of;
 use crate::keyword::{ActWord, Keyword};
 use crate::load::Act;
-use crate::places::number_or;
+use crate::numbers::number_or;
 use std::alloc::Global;
 use sv_packet::Event;
 use sv_prim::{Buf, Bytes, NoMemory, Numbers, put_u32, shrink};

@@ -17,7 +17,7 @@ use crate::form::Form;
 use crate::keyword::{ActWord, Keyword, SetupWord};
 use crate::load::{Action, Step, Task};
 use crate::making::{action, step, task};
-use crate::places::first_number;
+use crate::numbers::first_number;
 use crate::texting::text_behind;
 use std::alloc::Global;
 use sv_prim::NoMemory;
@@ -153,6 +153,7 @@ impl Draft {
                 Ok(())
             }
             Keyword::Turn(word) => {
+                // The draft's invariant says that there are few writers, so the turn's number is whole.
                 let _ = &self.schedule;
                 self.add_turn(action(word, numbers))
             }

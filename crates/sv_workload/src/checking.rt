@@ -1,3 +1,4 @@
+//! What is wrong with a line behind the lines of a draft.
 ghost use Rattle.std.specs.Prelude.{◌≡◌, ◌≤◌, List, [], IfNone, nat_lt, ◌==◌, false, not, ◌&&◌, length, map, slice_index};
 ghost use Rattle.std.specs.List.{list_any};
 ghost use Rattle.sv_workload.specs.Forms.{form_of};
@@ -14,6 +15,7 @@ use crate::fault::LineFault;
 use crate::form::Form;
 use crate::keyword::{ActWord, Keyword, SetupWord, TurnWord};
 use crate::numbering::has_bad_number;
+use crate::numbers::first_number;
 use crate::settings::Settings;
 use crate::shaping::is_misshapen;
 use crate::texting::has_bad_text;
@@ -53,6 +55,7 @@ fn is_told(settings: &Settings, keyword: Keyword) -> bool
     }
 }
 
+/// Whether a keyword stands for every word that is none.
 fn is_no_keyword(keyword: Keyword) -> bool
     ensures { result ≡ is_no_keyword keyword }
 {
@@ -69,17 +72,8 @@ fn is_unknown(line: &CutLine<'_>) -> bool
     is_no_keyword(line.keyword)
 }
 
-/// The first of these numbers, 0 if there is none.
-fn first_of(numbers: &[u32]) -> u32
-    ensures { result ≡ slice_index numbers.now 0 }
-{
-    match numbers.first() {
-        Some(number) => *number,
-        None => 0,
-    }
-}
-
 impl Draft {
+    /// Whether the keyword may stand behind the lines of the draft.
     fn has_place(&self, keyword: Keyword) -> bool
         ensures { result ≡ has_place self.now keyword }
     {
@@ -91,6 +85,7 @@ impl Draft {
         )
     }
 
+    /// Whether no further step is within the limits.
     fn has_all_steps(&self) -> bool
         ensures { result ≡ has_all_steps self.now }
     {
@@ -175,7 +170,7 @@ impl Draft {
         requires good { has_bad_number [] line.now ≡ false }
         ensures { (lines : List Line) → Stands self.now lines → result ≡ is_unaligned lines line.now }
     {
-        self.loses_bits(form.identifier, first_of(numbers))
+        self.loses_bits(form.identifier, first_number(numbers))
     }
 
     /// Whether a line's setting was told before, or a task with its identifier was. Its numbers are of their ranges.
@@ -184,7 +179,7 @@ impl Draft {
         requires good { has_bad_number [] line.now ≡ false }
         ensures { (lines : List Line) → Stands self.now lines → result ≡ is_repeated lines line.now }
     {
-        self.repeats(line.keyword, first_of(numbers))
+        self.repeats(line.keyword, first_number(numbers))
     }
 
     /// Whether a line's turn goes to a writer that there isn't.
@@ -192,7 +187,7 @@ impl Draft {
         requires numbers { numbers.now ≡ map capped (numbers_of line.now) }
         ensures { (lines : List Line) → Stands self.now lines → result ≡ has_no_writer lines line.now }
     {
-        self.lacks_writer(line.keyword, first_of(numbers))
+        self.lacks_writer(line.keyword, first_number(numbers))
     }
 
     /// What is wrong with where a line stands, or with its words.

@@ -1,3 +1,4 @@
+//! A workload in the making.
 ghost use Rattle.std.specs.Prelude.{◌≡◌, ◌≤◌, [], false};
 
 use crate::load::{Action, Need, Task, Workload};

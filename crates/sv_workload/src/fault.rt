@@ -1,3 +1,4 @@
+//! Faults of texts and of their lines.
 ghost use Rattle.std.specs.Prelude.{◌≡◌};
 
 use sv_prim::NoMemory;

@@ -1,3 +1,4 @@
+//! What stands behind each keyword.
 ghost use Rattle.std.specs.Prelude.{◌≡◌};
 ghost use Rattle.sv_workload.specs.Forms.{bare, numbers, form_of};
 

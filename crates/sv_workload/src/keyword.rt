@@ -1,3 +1,4 @@
+//! Keywords, and which words spell them.
 ghost use Rattle.std.specs.Prelude.{◌≡◌};
 ghost use Rattle.sv_workload.specs.Keywords.{spelling, keyword_among, of_length, step_keywords, other_keywords};
 

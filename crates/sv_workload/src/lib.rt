@@ -9,7 +9,6 @@
 
 mod acting;
 mod adding;
-mod capped;
 mod checking;
 mod cutting;
 mod draft;
@@ -24,7 +23,6 @@ mod number;
 mod numbering;
 mod numbers;
 mod parsing;
-mod places;
 mod range;
 mod scripts;
 mod settings;

@@ -1,3 +1,4 @@
+//! Lines, cut at the line feeds of a text.
 ghost use Rattle.std.specs.Prelude.{◌≡◌, ◌<◌, ◌==◌, length, position};
 ghost use Rattle.sv_workload.specs.Lines.{IsNext};
 

@@ -12,7 +12,7 @@ use crate::acting::act;
 use crate::cutting::CutLine;
 use crate::keyword::{ActWord, TurnWord};
 use crate::load::{Action, Step, Task};
-use crate::places::number_or;
+use crate::numbers::number_or;
 use std::alloc::Global;
 use sv_prim::{Bytes, NoMemory};
 

@@ -1,8 +1,9 @@
-ghost use Rattle.std.specs.Prelude.{◌≡◌, ◌-◌, ◌^◌, min, IsTrue};
+//! Words that are numbers.
+ghost use Rattle.std.specs.Prelude.{◌≡◌, ◌-◌, ◌^◌, min, IsTrue, option_map};
 ghost use Rattle.std.specs.List.{list_all};
 ghost use Rattle.std.specs.Char.{is_ascii_digit};
 ghost use Rattle.std.specs.Str.Parse.{digits_value};
-ghost use Rattle.sv_workload.specs.Words.{begins_well, is_number};
+ghost use Rattle.sv_workload.specs.Words.{begins_well, is_number, number_of};
 
 /// Whether no digit stands behind a 0 at the front.
 fn begins_well(word: &[u8]) -> bool
@@ -22,14 +23,14 @@ fn are_digits(word: &[u8]) -> bool
 }
 
 /// Whether a word is a number.
-pub fn is_number(word: &[u8]) -> bool
+fn is_number(word: &[u8]) -> bool
     ensures { result ≡ is_number word.now }
 {
     begins_well(word) && are_digits(word)
 }
 
 /// The digits' value, or the greatest `u64` where that is less.
-pub fn digits_value(digits: &[u8]) -> u64
+fn digits_value(digits: &[u8]) -> u64
     requires { IsTrue (list_all is_ascii_digit digits.now) }
     ensures { result ≡ min (digits_value 10 digits.now) (2 ^ 64 - 1) }
 {
@@ -40,4 +41,15 @@ pub fn digits_value(digits: &[u8]) -> u64
             .saturating_add((*digit - b'0') as u64);
     }
     value
+}
+
+/// The number that a word is. One above the greatest `u64` counts as that one.
+pub fn capped_number(word: &[u8]) -> Option<u64>
+    ensures { result ≡ option_map (λ n. min n (2 ^ 64 - 1)) (number_of word.now) }
+{
+    if is_number(word) {
+        Some(digits_value(word))
+    } else {
+        None
+    }
 }

@@ -1,13 +1,14 @@
+//! The ticks and numbers of a line against their ranges.
 ghost use Rattle.std.specs.Prelude.{◌≡◌, ℕ, ◌-◌, ◌^◌, min, List, drop, length, true, IsTrue, ◌++◌};
 ghost use Rattle.std.specs.Option.{option_map_or};
 ghost use Rattle.sv_workload.specs.Line.{Line};
 ghost use Rattle.sv_workload.specs.Forms.{between, form_of, is_in};
 ghost use Rattle.sv_workload.specs.Checks.{is_within, are_within, has_bad_number};
 
-use crate::capped::{capped_number, is_within};
 use crate::cutting::CutLine;
 use crate::form::Form;
-use crate::range::Range;
+use crate::number::capped_number;
+use crate::range::{Range, is_within};
 use crate::words::Words;
 
 /// The most ticks before a step.

@@ -1,3 +1,4 @@
+//! Texts read as workloads.
 ghost use Rattle.std.specs.Prelude.{◌≡◌, ℕ, ◌<◌, ◌^◌, length, IfOk, Err, Some};
 ghost use Rattle.sv_workload.specs.declared.fault.WorkFault.{WorkFault};
 ghost use Rattle.sv_workload.specs.Grammar.{first_reason, IsWorkload, SaysNothingOfLater};

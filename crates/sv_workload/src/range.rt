@@ -1,6 +1,10 @@
+//! Ranges of numbers.
 ghost use Rattle.std.specs.Prelude.{◌≡◌, ℕ, ◌-◌, ◌^◌, min, nat_le, true};
 ghost use Rattle.std.specs.Option.{option_map_or};
 ghost use Rattle.sv_workload.specs.Forms.{is_in};
+ghost use Rattle.sv_workload.specs.Checks.{is_within};
+
+use crate::number::capped_number;
 
 /// The numbers from the least on, and up to the most, if there is one.
 #[derive(Clone, Copy, Debug)]
@@ -29,4 +33,14 @@ pub fn is_in(range: &Range, n: u64) -> bool
     ensures { (whole : ℕ) → n ≡ min whole (2 ^ 64 - 1) → result ≡ is_in range.now whole }
 {
     is_at_least(n, range.least) && is_at_most(n, range.most)
+}
+
+/// Whether a word is a number of the range.
+pub fn is_within(range: &Range, word: &[u8]) -> bool
+    ensures { result ≡ is_within range.now word.now }
+{
+    match capped_number(word) {
+        Some(n) => is_in(range, n),
+        None => false,
+    }
 }

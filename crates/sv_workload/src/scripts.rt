@@ -1,3 +1,4 @@
+//! The steps of each writer, and what is counted over them.
 ghost use Rattle.std.specs.Prelude.{◌≡◌, ◌<◌, ◌≤◌, ◌∷◌, ◌++◌, [], true, length, map, OnOk, OnErr};
 ghost use Rattle.sv_packet.specs.Spelling.{spelling_of, IsRecordable};
 ghost use Rattle.sv_workload.specs.Need.{act_bytes, one_if, is_start_act, IsStepAct};

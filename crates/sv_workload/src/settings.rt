@@ -1,3 +1,4 @@
+//! The settings that lines tell.
 ghost use Rattle.std.specs.Prelude.{◌≡◌, unwrap_or};
 
 use crate::keyword::SetupWord;
@@ -46,28 +47,28 @@ impl Settings {
         }
     }
 
-    /// The size of the up ring.
+    /// The size of the up ring in bytes.
     pub fn ring(&self) -> u32
         ensures { result ≡ ring_told self.now }
     {
         self.ring.unwrap_or(1024)
     }
 
-    /// The frequency of the system.
+    /// The frequency of the clock whose periods are the ticks, in Hz.
     pub fn clock(&self) -> u32
         ensures { result ≡ clock_told self.now }
     {
         self.clock.unwrap_or(1000000)
     }
 
-    /// The frequency of the processor.
+    /// The frequency of the processor in Hz.
     pub fn cpu(&self) -> u32
         ensures { result ≡ cpu_told self.now }
     {
         self.cpu.unwrap_or(1000000)
     }
 
-    /// What identifiers are counted from.
+    /// The address that identifiers are counted from.
     pub fn base(&self) -> u32
         ensures { result ≡ base_told self.now }
     {

@@ -1,3 +1,4 @@
+//! How many words a line has, and that none is empty.
 ghost use Rattle.std.specs.Prelude.{◌≡◌, List, false, nat_le, ◌&&◌, take, drop, length, IsTrue};
 ghost use Rattle.std.specs.List.{list_all, join_with_byte};
 ghost use Rattle.sv_workload.specs.Line.{Line};

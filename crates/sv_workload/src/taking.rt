@@ -1,3 +1,4 @@
+//! One line more of a text.
 ghost use Rattle.std.specs.Prelude.{◌≡◌, List, ℕ, ◌∷◌, ◌++◌, [], Some, None, Ok};
 ghost use Rattle.sv_workload.specs.declared.fault.LineFault.{LineFault};
 ghost use Rattle.sv_workload.specs.Lines.{is_remark};

@@ -1,3 +1,4 @@
+//! The text of a line.
 ghost use Rattle.std.specs.Prelude.{◌≡◌, List, ◌&&◌, not, nat_le, drop, length, false};
 ghost use Rattle.std.specs.List.{list_all, join_with_byte};
 ghost use Rattle.std.specs.Option.{option_map_or};

@@ -1,3 +1,4 @@
+//! The words of a line, cut at its spaces.
 ghost use Rattle.std.specs.Prelude.{◌≡◌, ◌<◌, ◌∷◌, ◌==◌, [], length, IfSome, IfNone, position};
 ghost use Rattle.std.specs.List.{join_with_byte};
 ghost use Rattle.sv_workload.specs.Words.{words_of};

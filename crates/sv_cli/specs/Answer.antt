@@ -1,6 +1,6 @@
--- What a command that reads a recording answers: the whole text where the file was read to its end or to its damage,
--- and else what came of it before a failure.
-use Rattle.std.specs.Prelude.{◌≡◌, ℕ, ◌^◌, ◌<◌, ◌≤◌, List, ◌++◌, length, Option}
+-- What a command on a recording answers: its text of the bytes that were read, as far as that is written. A recording is
+-- read in pieces, each of which is filled up but for the last one.
+use Rattle.std.specs.Prelude.{◌≡◌, ℕ, ◌+◌, ◌*◌, ◌^◌, ◌<◌, ◌≤◌, ◌⊎◌, List, ◌++◌, length, Option}
 use Rattle.std.specs.Io.KnownBytes.{Appends}
 use Rattle.sv_prim.specs.declared.got.Reason.{Reason}
 use Rattle.sv_base.specs.Streams.{AppendsPart}
@@ -13,46 +13,72 @@ use Rattle.sv_stream.specs.Reads.{Reads}
 use Rattle.sv_report.specs.Ends.{number_of}
 use Rattle.sv_cli.specs.declared.status.Status.{Status}
 use Rattle.sv_cli.specs.declared.status.Status.TheVariants.{Done, Usage, ReadFault, WriteFault, Damaged, Truncated, NoSync, Workload, TooLong, NoMemory, Unbuilt}
-use Rattle.sv_cli.specs.declared.telling.Kind.{Kind}
-use Rattle.sv_cli.specs.Texts.{lines_for, text_for}
+use Rattle.sv_cli.specs.Text.{Text, lines_of, whole_text}
 
--- the file ends so, and its whole text is written
-abbrev pub IsWhole : Kind → List ℕ → End → Option (List ℕ) → Option (List ℕ) → Type 0
-IsWhole kind file end old new = (packets : List Packet) × Reads file packets end × Appends old new (text_for kind (timed packets) end)
+-- how many bytes a piece has
+abbrev pub piece_size : ℕ
+piece_size = 4096
 
--- of a file that was read no further than this front, which is not damaged, the lines of the front's packets are written
-pub record IsCutOff (kind : Kind) (file : List ℕ) (old new : Option (List ℕ)) : Type 0 where
-  pub front : List ℕ
-  pub rest : List ℕ
+-- the most bytes of a recording, so that its times fit 64 bits
+abbrev pub most_bytes : ℕ
+most_bytes = 2 ^ 33
+
+-- the bytes are not damaged
+abbrev pub IsSound : List ℕ → Type 0
+IsSound bytes = (packets : List Packet) (end : End) → Reads bytes packets end → IsDamaged end → ⊥
+
+-- the bytes that were taken: a front of whole pieces that is not damaged, and at most one piece more
+pub record IsIntake (taken front : List ℕ) : Type 0 where
+  pub piece : List ℕ
+  pub taken_is : taken ≡ front ++ piece
+  pub pieces : ℕ
+  pub front_is : length front ≡ pieces * piece_size
+  pub one : length piece ≤ piece_size
+  pub short : length front ≤ most_bytes
+  pub sound : IsSound front
+
+-- all of the text is written of the bytes that were taken: they are all there are, or damaged
+pub record IsWhole (text : Text) (taken : List ℕ) (all : Type 0) (end : End) (old new : Option (List ℕ)) : Type 0 where
+  pub packets : List Packet
+  pub reads : Reads taken packets end
+  pub through : all ⊎ IsDamaged end
+  pub short : length taken ≤ most_bytes
+  pub written : Appends old new (whole_text text (timed packets) end)
+
+-- exactly the lines of the front's events are written
+pub record IsCutOff (text : Text) (front : List ℕ) (old new : Option (List ℕ)) : Type 0 where
   pub packets : List Packet
   pub end : End
-  pub whole : file ≡ front ++ rest
-  pub short : length front ≤ 2 ^ 33
   pub reads : Reads front packets end
-  pub sound : IsDamaged end → ⊥
-  pub lines : Appends old new (lines_for kind (timed packets))
+  pub written : Appends old new (lines_of text (timed packets))
 
--- of a file that was read no further than this front, a part of the front's text is written
-pub record IsCutWithin (kind : Kind) (file : List ℕ) (old new : Option (List ℕ)) : Type 0 where
-  pub front : List ℕ
-  pub rest : List ℕ
+-- a part of the lines of the bytes that were taken is written, or a part of their whole text where they are all there are,
+-- or damaged
+pub record IsPart (text : Text) (taken : List ℕ) (all : Type 0) (old new : Option (List ℕ)) : Type 0 where
   pub packets : List Packet
   pub end : End
-  pub whole : file ≡ front ++ rest
-  pub short : length front ≤ 2 ^ 33
-  pub reads : Reads front packets end
-  pub part : AppendsPart old new (text_for kind (timed packets) end)
+  pub reads : Reads taken packets end
+  pub part :
+      AppendsPart old new (lines_of text (timed packets))
+      ⊎ ((all ⊎ IsDamaged end) × AppendsPart old new (whole_text text (timed packets) end))
 
--- the answer over a file, and what the output has gained. No more than 2^33 bytes of a file are taken.
-abbrev pub Answers : Kind → List ℕ → Option (List ℕ) → Option (List ℕ) → Status → Type 0
-Answers kind file old new Done = IsWhole kind file ends.Clean old new × (length file ≤ 2 ^ 33)
-Answers kind file old new (Damaged place number) = (reason : Reason) × (number ≡ number_of reason) × IsWhole kind file (ends.Damaged place reason) old new
-Answers kind file old new (Truncated held) = IsWhole kind file (ends.Truncated held) old new × (length file ≤ 2 ^ 33)
-Answers kind file old new NoSync = IsWhole kind file ends.NoSync old new × (length file ≤ 2 ^ 33)
-Answers kind file old new ReadFault = IsCutOff kind file old new
-Answers kind file old new (TooLong limit) = (limit ≡ 2 ^ 33) × (2 ^ 33 < length file) × IsCutOff kind file old new
-Answers kind file old new WriteFault = IsCutWithin kind file old new
-Answers kind file old new NoMemory = IsCutWithin kind file old new
-Answers kind file old new (Workload line reason) = ⊥
-Answers kind file old new (Unbuilt place) = ⊥
-Answers kind file old new Usage = ⊥
+-- the answer over the bytes that were taken and their front
+abbrev pub IsAnswer : Text → List ℕ → List ℕ → Type 0 → Option (List ℕ) → Option (List ℕ) → Status → Type 0
+IsAnswer text taken front all old new Done = IsWhole text taken all ends.Clean old new
+IsAnswer text taken front all old new (Damaged place number) =
+    (reason : Reason) × (number ≡ number_of reason) × IsWhole text taken all (ends.Damaged place reason) old new
+IsAnswer text taken front all old new (Truncated held) = IsWhole text taken all (ends.Truncated held) old new
+IsAnswer text taken front all old new NoSync = IsWhole text taken all ends.NoSync old new
+IsAnswer text taken front all old new ReadFault =
+    (length taken < length front + piece_size) × IsCutOff text front old new
+IsAnswer text taken front all old new (TooLong limit) =
+    (limit ≡ most_bytes) × (length front ≡ most_bytes) × (most_bytes < length taken) × IsCutOff text front old new
+IsAnswer text taken front all old new WriteFault = IsPart text taken all old new
+IsAnswer text taken front all old new NoMemory = IsPart text taken all old new
+IsAnswer text taken front all old new other = ⊥
+
+-- the same, with the front that was read of them; `all` says that no bytes are left
+pub record IsShown (text : Text) (taken : List ℕ) (all : Type 0) (old new : Option (List ℕ)) (status : Status) : Type 0 where
+  pub front : List ℕ
+  pub intake : IsIntake taken front
+  pub answer : IsAnswer text taken front all old new status

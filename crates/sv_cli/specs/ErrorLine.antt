@@ -1,26 +1,25 @@
 -- The lines on the error sink.
-use Rattle.std.specs.Prelude.{◌⊎◌, ℕ, List, [], ◌++◌, Option, codes}
+use Rattle.std.specs.Prelude.{ℕ, List, [], ◌++◌, codes}
 use Rattle.std.specs.Fmt.{decimal}
-use Rattle.std.specs.Io.KnownBytes.{Appends}
-use Rattle.sv_base.specs.Causes.{Rose}
-use Rattle.sv_base.specs.Streams.{AppendsPart}
 use Rattle.sv_cli.specs.declared.status.Status.{Status}
 use Rattle.sv_cli.specs.declared.status.Status.TheVariants.{Done, Usage, ReadFault, WriteFault, Damaged, Truncated, NoSync, Workload, TooLong, NoMemory, Unbuilt}
+
+-- the forms of all commands
+abbrev pub usage_line : List ℕ
+usage_line = codes "usage: sysview events F | check F | record W\n"
 
 -- one line for each status but Done
 abbrev pub error_line : Status → List ℕ
 error_line Done = []
-error_line Usage = codes "usage: sysview events F | check F | record W\n"
+error_line Usage = usage_line
 error_line ReadFault = codes "read fault\n"
 error_line WriteFault = codes "write fault\n"
-error_line (Damaged place reason) = codes "damaged at " ++ (decimal place ++ (codes " reason " ++ (decimal reason ++ codes "\n")))
+error_line (Damaged place reason) =
+    codes "damaged at " ++ (decimal place ++ (codes " reason " ++ (decimal reason ++ codes "\n")))
 error_line (Truncated held) = codes "truncated, held " ++ (decimal held ++ codes "\n")
 error_line NoSync = codes "no sync\n"
-error_line (Workload line reason) = codes "workload line " ++ (decimal line ++ (codes " reason " ++ (decimal reason ++ codes "\n")))
+error_line (Workload line reason) =
+    codes "workload line " ++ (decimal line ++ (codes " reason " ++ (decimal reason ++ codes "\n")))
 error_line (TooLong limit) = codes "longer than " ++ (decimal limit ++ codes "\n")
 error_line NoMemory = codes "no memory\n"
 error_line (Unbuilt place) = codes "not built at " ++ (decimal place ++ codes "\n")
-
--- a sink has gained the line, or failed within it
-abbrev pub Says : List ℕ → Option (List ℕ) → Option (List ℕ) → ℕ → ℕ → Type 0
-Says line old new faults_old faults_new = Appends old new line ⊎ (AppendsPart old new line × Rose faults_old faults_new)

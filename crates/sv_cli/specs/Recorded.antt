@@ -1,17 +1,22 @@
 -- What `record` makes of a workload's text, and what it answers where a device fails.
 use Rattle.std.specs.Prelude.{◌≡◌, ℕ, ◌^◌, ◌<◌, ◌≤◌, Bool, true, false, List, [], ◌++◌, length, Option, Some, codes}
-use Rattle.std.specs.List.{list_any}
 use Rattle.std.specs.Io.KnownBytes.{Appends}
 use Rattle.sv_base.specs.Streams.{AppendsPart}
 use Rattle.sv_workload.specs.Load.{Load}
 use Rattle.sv_workload.specs.Grammar.{first_reason, IsWorkload}
 use Rattle.sv_recorder.specs.declared.journal.Item.{Item}
-use Rattle.sv_recorder.specs.Items.{is_start}
 use Rattle.sv_recorder.specs.Stream.{stream_of}
-use Rattle.sv_cli.specs.Built.{is_built}
-use Rattle.sv_cli.specs.Simulated.{IsSimulated}
+use Rattle.sv_core.specs.Built.{is_built}
+use Rattle.sv_core.specs.Simulated.{IsSimulated}
+use Rattle.sv_core.specs.Start.{has_start}
+use Rattle.sv_cli.specs.declared.simulated.Unsimulated.{Unsimulated}
+use Rattle.sv_cli.specs.declared.simulated.Unsimulated.TheVariants as faults
 use Rattle.sv_cli.specs.declared.status.Status.{Status}
 use Rattle.sv_cli.specs.declared.status.Status.TheVariants.{Done, Usage, ReadFault, WriteFault, Damaged, Truncated, NoSync, Workload, TooLong, NoMemory, Unbuilt}
+
+-- the most bytes of a workload
+abbrev pub most_of_workload : ℕ
+most_of_workload = 2 ^ 26
 
 -- the line before the bytes of a recording
 abbrev pub header : List ℕ
@@ -21,62 +26,64 @@ header = codes "; sysview recording\n"
 abbrev pub recording_text : Load → List Item → List ℕ
 recording_text load items = header ++ stream_of load items
 
--- some item is a start
-abbrev pub has_start : Load → List Item → Bool
-has_start load items = list_any (λ i. is_start load i.origin) items
-
 -- the text says this workload, it is built, and the journal is that of its simulation
 pub record IsRun (text : List ℕ) (load : Load) (items : List Item) : Type 0 where
   pub says : IsWorkload text load
   pub built : is_built load ≡ true
   pub simulated : IsSimulated load items
-  pub short : length text ≤ 2 ^ 26
 
--- the text says a workload that is not built, and the place is behind all of it
-pub record IsUnbuilt (text : List ℕ) (place : ℕ) : Type 0 where
+-- the whole recording of a run is written, which has a start or not
+pub record IsRecording (text : List ℕ) (old new : Option (List ℕ)) (items : List Item) (started : Bool) : Type 0 where
+  pub load : Load
+  pub run : IsRun text load items
+  pub start : has_start load items ≡ started
+  pub written : Appends old new (recording_text load items)
+
+-- a part of it is written
+pub record IsRecordingPart (text : List ℕ) (old new : Option (List ℕ)) (items : List Item) : Type 0 where
+  pub load : Load
+  pub run : IsRun text load items
+  pub part : AppendsPart old new (recording_text load items)
+
+-- the text says a workload that is not built
+pub record IsUnbuilt (text : List ℕ) : Type 0 where
   pub load : Load
   pub says : IsWorkload text load
   pub unbuilt : is_built load ≡ false
-  pub behind : place ≡ length text
 
--- the answer over a workload's text, what the output has gained, and the journal. No more than 2^26 bytes are taken.
-abbrev pub IsRecorded : List ℕ → Option (List ℕ) → Option (List ℕ) → List Item → Status → Type 0
-IsRecorded text old new items Done = (load : Load) × IsRun text load items × (has_start load items ≡ true) × Appends old new (recording_text load items)
-IsRecorded text old new items NoSync = (load : Load) × IsRun text load items × (has_start load items ≡ false) × Appends old new (recording_text load items)
-IsRecorded text old new items WriteFault = (load : Load) × IsRun text load items × AppendsPart old new (recording_text load items)
-IsRecorded text old new items (Workload line reason) = (first_reason text ≡ Some (line, reason)) × (length text ≤ 2 ^ 26) × Appends old new [] × (items ≡ [])
-IsRecorded text old new items (Unbuilt place) = IsUnbuilt text place × (length text ≤ 2 ^ 26) × Appends old new [] × (items ≡ [])
-IsRecorded text old new items NoMemory = Appends old new [] × (items ≡ [])
-IsRecorded text old new items ReadFault = Appends old new [] × (items ≡ [])
-IsRecorded text old new items (TooLong limit) = (limit ≡ 2 ^ 26) × (2 ^ 26 < length text) × Appends old new [] × (items ≡ [])
-IsRecorded text old new items (Damaged place reason) = ⊥
-IsRecorded text old new items (Truncated held) = ⊥
-IsRecorded text old new items Usage = ⊥
+-- nothing is written, and there is no journal
+abbrev pub IsNothing : Option (List ℕ) → Option (List ℕ) → List Item → Type 0
+IsNothing old new items = Appends old new [] × (items ≡ [])
 
--- the same once the workload is read: its journal and what is written, or no memory for it
-abbrev pub IsPlayed : Load → Option (List ℕ) → Option (List ℕ) → List Item → Status → Type 0
-IsPlayed load old new items Done = IsSimulated load items × (has_start load items ≡ true) × Appends old new (recording_text load items)
-IsPlayed load old new items NoSync = IsSimulated load items × (has_start load items ≡ false) × Appends old new (recording_text load items)
-IsPlayed load old new items WriteFault = IsSimulated load items × AppendsPart old new (recording_text load items)
-IsPlayed load old new items NoMemory = Appends old new [] × (items ≡ [])
-IsPlayed load old new items (Workload line reason) = ⊥
-IsPlayed load old new items (Unbuilt place) = ⊥
-IsPlayed load old new items ReadFault = ⊥
-IsPlayed load old new items (TooLong limit) = ⊥
-IsPlayed load old new items (Damaged place reason) = ⊥
-IsPlayed load old new items (Truncated held) = ⊥
-IsPlayed load old new items Usage = ⊥
+-- the answer over a text that was read whole
+abbrev pub IsTextRecorded : List ℕ → Option (List ℕ) → Option (List ℕ) → List Item → Status → Type 0
+IsTextRecorded text old new items Done = IsRecording text old new items true
+IsTextRecorded text old new items NoSync = IsRecording text old new items false
+IsTextRecorded text old new items WriteFault = IsRecordingPart text old new items
+IsTextRecorded text old new items (Workload line reason) = (first_reason text ≡ Some (line, reason)) × IsNothing old new items
+IsTextRecorded text old new items (Unbuilt place) = (place ≡ length text) × IsUnbuilt text × IsNothing old new items
+IsTextRecorded text old new items NoMemory = IsNothing old new items
+IsTextRecorded text old new items other = ⊥
 
--- how a workload that was read may end
-abbrev pub IsRunEnd : Status → Type 0
-IsRunEnd Done = Unit {0}
-IsRunEnd NoSync = Unit {0}
-IsRunEnd WriteFault = Unit {0}
-IsRunEnd NoMemory = Unit {0}
-IsRunEnd (Workload line reason) = Unit {0}
-IsRunEnd (Unbuilt place) = Unit {0}
-IsRunEnd ReadFault = ⊥
-IsRunEnd (TooLong limit) = ⊥
-IsRunEnd (Damaged place reason) = ⊥
-IsRunEnd (Truncated held) = ⊥
-IsRunEnd Usage = ⊥
+-- the answer over a file's bytes, of which so many were taken: no more than a workload may have, and one piece
+abbrev pub IsRecorded : List ℕ → List ℕ → Option (List ℕ) → Option (List ℕ) → List Item → Status → Type 0
+IsRecorded file taken old new items ReadFault = (length taken ≤ most_of_workload) × IsNothing old new items
+IsRecorded file taken old new items (TooLong limit) =
+    (limit ≡ most_of_workload) × (most_of_workload < length taken) × IsNothing old new items
+IsRecorded file taken old new items NoMemory = IsNothing old new items
+IsRecorded file taken old new items other =
+    (taken ≡ file) × (length file ≤ most_of_workload) × IsTextRecorded file old new items other
+
+-- why a text has no simulation
+abbrev pub IsUnsimulated : List ℕ → Unsimulated → Type 0
+IsUnsimulated text (faults.Line line reason) = first_reason text ≡ Some (line, reason)
+IsUnsimulated text faults.Unbuilt = IsUnbuilt text
+IsUnsimulated text faults.NoMemory = Unit {0}
+
+-- a workload that ends so has written nothing at all
+abbrev pub is_unwritten : Status → Bool
+is_unwritten ReadFault = true
+is_unwritten (TooLong limit) = true
+is_unwritten (Workload line reason) = true
+is_unwritten (Unbuilt place) = true
+is_unwritten status = false

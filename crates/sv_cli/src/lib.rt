@@ -1,27 +1,23 @@
 //! The commands of the program: their words, what they write, and the status that they end with.
 //!
-//! The contract above this crate is that of [`offline`]: the lines that it writes of a recording are
-//! those that the file alone fixes, the recording that it writes of a workload is the stream of a
-//! legal journal of it in the order of a simulation, and where they are not, the status says which
-//! device failed.
+//! The contract above this crate is that of [`offline`]: of every file there are bytes, those that its
+//! source tells where it tells them, and the answer of a command is the one that these bytes fix, as far
+//! as devices and memory let it come. A recording's text is that of the pieces that were read of it; a
+//! workload's recording is the stream of a legal journal of it in the order of a simulation.
 #![tactic(auto)]
 
+mod answer;
+mod command;
 mod commands;
-mod draining;
-mod errors;
-mod fault;
-mod feeding;
-mod laws;
 mod reading;
-mod recording;
-mod showing;
+mod scan;
+mod simulated;
 mod status;
-mod telling;
+mod view;
 
-pub use commands::offline;
-pub use errors::tell;
-pub use laws::simulated_once;
-pub use status::Status;
+pub use answer::offline;
+pub use command::Command;
+pub use status::{Status, say};
 
 #[cfg(test)]
 mod tests;

@@ -1,5 +1,0 @@
-use Rattle.sv_cli.proofs.OneJournal.{one_simulated}
-use Rattle.sv_cli.proofs.laws.simulated_once.Goals as goal
-
-pub returns : goal.returns
-returns c = record { journal = one_simulated }

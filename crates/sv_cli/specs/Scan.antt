@@ -1,0 +1,107 @@
+-- How far a recording is scanned, and what came of it.
+use Rattle.std.specs.Prelude.{◌≡◌, ℕ, ◌+◌, ◌*◌, ◌^◌, ◌<◌, ◌≤◌, ◌⊎◌, Bool, true, false, List, [], ◌++◌, length, take, Option, Result, Ok, Err}
+use Rattle.std.specs.Io.KnownBytes.{Appends, Consumes, IsAtEnd}
+use Rattle.sv_prim.specs.Text.{AreBytes}
+use Rattle.sv_base.specs.Streams.{ConsumesMore, ConsumesFewer}
+use Rattle.sv_packet.specs.declared.event.Packet.{Packet}
+use Rattle.sv_packet.specs.declared.event.TimedEvent.{TimedEvent}
+use Rattle.sv_packet.specs.Time.{timed}
+use Rattle.sv_stream.specs.declared.end.End.{End}
+use Rattle.sv_stream.specs.declared.end.End.TheVariants as ends
+use Rattle.sv_stream.specs.Decoding.{Decoding, StandsFor, IsSettled, IsDamaged, pushed}
+use Rattle.sv_stream.specs.Reads.{Reads}
+use Rattle.sv_report.specs.Ends.{number_of}
+use Rattle.sv_cli.specs.declared.scan.Cut.{Cut}
+use Rattle.sv_cli.specs.declared.scan.Cut.TheVariants as cuts
+use Rattle.sv_cli.specs.declared.scan.Scan.{Scan}
+use Rattle.sv_cli.specs.declared.status.Status.{Status}
+use Rattle.sv_cli.specs.declared.status.Status.TheVariants.{Done, ReadFault, WriteFault, Damaged, Truncated, NoSync, TooLong, NoMemory}
+use Rattle.sv_cli.specs.Answer.{piece_size, most_bytes, IsSound, IsIntake, IsShown}
+use Rattle.sv_cli.specs.Text.{Text, lines_after, lines_of}
+
+-- the status of a scan's end
+abbrev pub status_for : Result End Cut → Status
+status_for (Ok ends.Clean) = Done
+status_for (Ok (ends.Truncated held)) = Truncated held
+status_for (Ok ends.NoSync) = NoSync
+status_for (Ok (ends.Damaged place reason)) = Damaged place (number_of reason)
+status_for (Err cuts.Unread) = ReadFault
+status_for (Err cuts.TooLong) = TooLong most_bytes
+status_for (Err cuts.Unwritten) = WriteFault
+status_for (Err cuts.NoMemory) = NoMemory
+
+-- a decoder has given these events and no others since, they were shown, and what is written of them is gathered
+pub record HasGiven {V : Type 0} (text : Text) (shown : V → List TimedEvent → Type 0) (old new : Decoding) (before now : V)
+    (lines_before lines : List ℕ) (events : List TimedEvent) : Type 0 where
+  pub stands : (input : List ℕ) (given : List TimedEvent) → StandsFor old input given → StandsFor new input (given ++ events)
+  pub viewed : (given : List TimedEvent) → shown before given → shown now (given ++ events)
+  pub gathered : (given : List TimedEvent) → shown before given → lines ≡ lines_before ++ lines_after text given events
+  pub held : length new.held + length events ≤ length old.held
+  pub pushed_same : pushed new ≡ pushed old
+
+-- none is left after these events, and whether that is for damage
+pub record IsDrained (old new : Decoding) (events : List TimedEvent) (damaged : Bool) : Type 0 where
+  pub settled : IsSettled new
+  pub all : (input : List ℕ) (given : List TimedEvent) → StandsFor old input given → (packets : List Packet) (end : End) → Reads input packets end → given ++ events ≡ timed packets
+  pub no : damaged ≡ false → (input : List ℕ) (given : List TimedEvent) → StandsFor old input given → IsSound input
+  pub yes : damaged ≡ true → (input : List ℕ) (given : List TimedEvent) → StandsFor old input given → (packets : List Packet) (end : End) → Reads input packets end → IsDamaged end
+
+-- the next bytes of a file, and the decoder that took them
+pub record IsFed (left_before left : Option (List ℕ)) (old new : Decoding) (total count : ℕ) (buf : List ℕ) : Type 0 where
+  pub few : count ≤ length buf
+  pub within : total + count ≤ most_bytes
+  pub bytes : AreBytes (take count buf)
+  pub read : Consumes left_before left (take count buf)
+  pub stands : (input : List ℕ) (given : List TimedEvent) → StandsFor old input given → StandsFor new (input ++ take count buf) given
+  pub pushed_more : pushed new ≡ pushed old + count
+  pub held : length new.held ≤ length old.held + count
+  pub ended : count < length buf → IsAtEnd left
+
+-- bytes of one piece that the decoder did not take
+pub record IsLost (left_before left : Option (List ℕ)) : Type 0 where
+  pub piece : List ℕ
+  pub bytes : AreBytes piece
+  pub read : Consumes left_before left piece
+  pub one : length piece ≤ piece_size
+
+-- why no more was fed to a decoder that has these many bytes
+abbrev pub IsUnfed : Option (List ℕ) → Option (List ℕ) → ℕ → Cut → Type 0
+IsUnfed left_before left total cuts.Unread = ConsumesFewer left_before left piece_size
+IsUnfed left_before left total cuts.TooLong = (lost : IsLost left_before left) × (most_bytes < total + length lost.piece)
+IsUnfed left_before left total cuts.NoMemory = IsLost left_before left
+IsUnfed left_before left total cuts.Unwritten = ⊥
+
+-- the bytes of a file so far are read, their events were shown, and what is written of them is written
+pub record IsScanned {V : Type 0} (text : Text) (shown : V → List TimedEvent → Type 0) (left_before left out_before out : Option (List ℕ)) (scan : Scan V) : Type 0 where
+  pub input : List ℕ
+  pub front : List ℕ
+  pub intake : IsIntake input front
+  pub given : List TimedEvent
+  pub stands : StandsFor scan.decoder input given
+  pub settled : IsSettled scan.decoder
+  pub all : (packets : List Packet) (end : End) → Reads input packets end → given ≡ timed packets
+  pub bytes : AreBytes input
+  pub read : Consumes left_before left input
+  pub written : Appends out_before out (lines_of text given)
+  pub viewed : shown scan.view given
+  pub total_is : scan.total ≡ length input
+  pub within : scan.total ≤ most_bytes
+  pub counted : length given + length scan.decoder.held ≤ scan.total
+  pub empty : scan.lines.items ≡ []
+
+-- the same between two pieces: the input is whole pieces and not damaged
+pub record IsBetween {V : Type 0} (text : Text) (shown : V → List TimedEvent → Type 0) (left_before left out_before out : Option (List ℕ)) (scan : Scan V) : Type 0 where
+  pub scanned : IsScanned text shown left_before left out_before out scan
+  pub pieces : ℕ
+  pub whole : length scanned.input ≡ pieces * piece_size
+  pub sound : IsSound scanned.input
+
+-- nothing is left to read, or nothing after damage
+abbrev pub IsEnough : Option (List ℕ) → List ℕ → Type 0
+IsEnough left input = IsAtEnd left ⊎ ((packets : List Packet) (end : End) → Reads input packets end → IsDamaged end)
+
+-- what the scan of a file came to, whose bytes may be known
+pub record IsScanEnd (text : Text) (left_before left out_before out : Option (List ℕ)) (result : Result End Cut) : Type 0 where
+  pub taken : List ℕ
+  pub read : Consumes left_before left taken
+  pub shown : IsShown text taken (IsAtEnd left) out_before out (status_for result)

@@ -1,0 +1,3 @@
+-- What each command writes of a recording.
+pub mod Events
+pub mod Check

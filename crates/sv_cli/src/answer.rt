@@ -1,0 +1,73 @@
+//! What the program does, and how it ends.
+ghost use Rattle.std.specs.Prelude.{◌≡◌, ◌≢◌, ◌↔◌, [], true};
+ghost use Rattle.sv_base.specs.Causes.{Blames, one_more};
+ghost use Rattle.sv_cli.specs.declared.command.Command.{Command as Asked};
+ghost use Rattle.sv_cli.specs.AnswersTo.{AnswersTo};
+ghost use Rattle.sv_cli.specs.Command.{IsCommand, file_of, is_unwritten};
+ghost use Rattle.sv_cli.specs.Devices.{OfFile, IsWrittenTo, Says};
+ghost use Rattle.sv_cli.specs.ErrorLine.{error_line};
+
+use crate::command::Command;
+use crate::commands::check::Check;
+use crate::commands::events::Events;
+use crate::commands::record::record;
+use crate::scan::scan_file;
+use crate::status::{Status, say};
+use std::alloc::Global;
+use sv_base::{Sink, Source};
+use sv_recorder::Journal;
+
+/// Does the command that the words name, and says how it ended.
+///
+/// `words` are those after the program's name. `events F` and `check F` read the file F from `src`, of
+/// at most 2^33 bytes, in pieces of 4096 bytes, and nothing after a piece that is damaged. `events`
+/// writes a line for each event to `out`, those of a piece at once, and an end line; `check` writes how
+/// many packets there are, the time of the last one, and the end line. `record W` reads the workload W,
+/// of at most 2^26 bytes, simulates it, and writes a line and the bytes that were sent; `journal` is
+/// then that of the run. A status other than Done is told to `err`, in one line; what `err` does with
+/// it changes nothing.
+pub fn offline<S: Source, K: Sink>(
+    alloc: Global,
+    words: &[&str],
+    src: &mut S,
+    out: &mut K,
+    err: &mut K,
+    journal: &mut Journal,
+) -> Status
+    requires { journal.old.items ≡ [] }
+
+    // The words alone are to blame.
+    ensures usage { (result ≡ Status.Usage) ↔ ((c : Asked) → IsCommand words.now c → ⊥) }
+    ensures untouched { result ≡ Status.Usage →
+        (src.new ≡ src.old) × (out.new ≡ out.old) × (journal.new ≡ journal.old) }
+
+    // The bytes of the file fix the answer, as far as they were taken.
+    ensures answered { (c : Asked) → IsCommand words.now c →
+        OfFile (S.held src.old (file_of c)) (S.left src.new) (λ file taken.
+        AnswersTo c file taken (K.written out.old) (K.written out.new) journal.new.items result) }
+    ensures unwritten { (c : Asked) → IsCommand words.now c →
+        is_unwritten c result ≡ true → out.new ≡ out.old }
+
+    // A file is begun once, and is read where it can be.
+    ensures begins { result ≢ Status.Usage → S.begins src.new ≡ one_more (S.begins src.old) }
+    ensures sure { (c : Asked) → IsCommand words.now c →
+        S.sure src.old (file_of c) → result ≢ Status.ReadFault }
+
+    // A device is to blame only where it failed, and a failed write is the last.
+    ensures read { Blames (result ≡ Status.ReadFault) (S.faults src.old) (S.faults src.new) }
+    ensures write { IsWrittenTo (result ≡ Status.WriteFault)
+        (K.broken out.new) (K.faults out.old) (K.faults out.new) }
+
+    // The error sink has the status's line, or has failed within it.
+    ensures said { Says (error_line result)
+        (K.written err.old) (K.written err.new) (K.faults err.old) (K.faults err.new) }
+{
+    let status = match Command::parse(words) {
+        Some(Command::Events(name)) => scan_file(alloc, Events, name, src, out),
+        Some(Command::Check(name)) => scan_file(alloc, Check::new(), name, src, out),
+        Some(Command::Record(name)) => record(alloc, name, src, out, journal),
+        None => Status::Usage,
+    };
+    say(err, &status);
+    status
+}

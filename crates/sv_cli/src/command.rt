@@ -1,0 +1,41 @@
+//! The commands, by the words of a command line.
+ghost use Rattle.std.specs.Prelude.{◌≡◌, MatchOption};
+ghost use Rattle.sv_cli.specs.ErrorLine.{usage_line};
+
+/// What the words of a command line ask for, with the name of the file that it reads.
+#[derive(Clone, Copy, Debug, PartialEq, Eq)]
+pub enum Command<'a> {
+    /// `events F`: a line for each event of the recording F, and the end line.
+    Events(&'a str),
+    /// `check F`: how many packets the recording F has, the time of the last one in ticks, and the
+    /// end line.
+    Check(&'a str),
+    /// `record W`: the recording that the workload W gives.
+    Record(&'a str),
+}
+
+/// The line that tells the forms of all commands.
+pub fn usage() -> &'static str
+    ensures { result.now ≡ usage_line }
+{
+    "usage: sysview events F | check F | record W\n"
+}
+
+impl<'a> Command<'a> {
+    ghost use Rattle.sv_cli.specs.declared.command.Command.{Command};
+    ghost use Rattle.sv_cli.specs.Command.{IsCommand};
+
+    /// The command that the words after the program's name ask for, if they are one.
+    pub fn parse(words: &[&'a str]) -> Option<Command<'a>>
+        ensures { MatchOption result
+            ((command : Command) → IsCommand words.now command → ⊥)
+            (λ command. IsCommand words.now command) }
+    {
+        match words {
+            ["events", file] => Some(Command::Events(file)),
+            ["check", file] => Some(Command::Check(file)),
+            ["record", file] => Some(Command::Record(file)),
+            _ => None,
+        }
+    }
+}

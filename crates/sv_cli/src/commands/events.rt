@@ -1,0 +1,25 @@
+//! The command `events`: a line for each event.
+ghost use Rattle.sv_cli.specs.commands.Events.{events_text};
+
+use crate::view::View;
+use sv_packet::TimedEvent;
+use sv_prim::NoMemory;
+use sv_report::{end_line, event_line};
+use sv_stream::End;
+
+/// Writes a line for each event, and the end line.
+#[derive(Clone, Copy, Debug)]
+pub struct Events;
+
+impl View for Events {
+    ghost text = { events_text };
+    ghost shown = { λ view events. Unit {0} };
+
+    fn event(&mut self, event: &TimedEvent, lines: &mut Vec<u8>) -> Result<(), NoMemory> {
+        event_line(event, lines)
+    }
+
+    fn end(&self, end: &End, lines: &mut Vec<u8>) -> Result<(), NoMemory> {
+        end_line(end, lines)
+    }
+}

@@ -1,0 +1,86 @@
+//! The command `record`: the recording that a workload gives.
+ghost use Rattle.std.specs.Prelude.{◌≡◌, ◌≢◌, ◌≤◌, ◌^◌, ◌++◌, [], length, true, IsErr, OnOk, OnErr};
+ghost use Rattle.std.specs.Io.KnownBytes.{Appends};
+ghost use Rattle.sv_base.specs.Causes.{Blames, one_more};
+ghost use Rattle.sv_base.specs.Streams.{AppendsPart};
+ghost use Rattle.sv_cli.specs.Devices.{OfFile, IsWrittenTo};
+ghost use Rattle.sv_cli.specs.Recorded.{header, is_unwritten, IsTextRecorded, IsRecorded};
+
+use crate::reading::read_file;
+use crate::simulated::{Unsimulated, simulated};
+use crate::status::Status;
+use std::alloc::Global;
+use sv_base::{Failed, ReadAll, Sink, Source, put_all};
+use sv_core::has_start;
+use sv_recorder::Journal;
+
+/// The most bytes of a workload.
+const MOST_OF_WORKLOAD: u64 = 1 << 26;
+
+/// Writes the line of a recording and its bytes.
+fn put_recording<K: Sink>(out: &mut K, bytes: &[u8]) -> Result<(), Failed>
+    ensures ok { OnOk result (Appends (K.written out.old) (K.written out.new) (header ++ bytes.now)) }
+    ensures err { OnErr result
+        (AppendsPart (K.written out.old) (K.written out.new) (header ++ bytes.now)) }
+    ensures sink { IsWrittenTo (IsErr result) (K.broken out.new) (K.faults out.old) (K.faults out.new) }
+{
+    put_all(out, b"; sysview recording\n")?;
+    put_all(out, bytes)
+}
+
+/// Records the workload that the text says.
+fn record_text<K: Sink>(alloc: Global, text: &[u8], out: &mut K, journal: &mut Journal) -> Status
+    requires short { length text.now ≤ 2 ^ 26 }
+    requires empty { journal.old.items ≡ [] }
+    ensures recorded { IsTextRecorded text.now
+        (K.written out.old) (K.written out.new) journal.new.items result }
+    ensures unwritten { is_unwritten result ≡ true → out.new ≡ out.old }
+    ensures sink { IsWrittenTo (result ≡ Status.WriteFault)
+        (K.broken out.new) (K.faults out.old) (K.faults out.new) }
+{
+    let made = match simulated(alloc, text) {
+        Ok(made) => made,
+        Err(Unsimulated::Line { line, reason }) => return Status::Workload { line, reason },
+        Err(Unsimulated::Unbuilt) => {
+            let place = text.len() as u64;
+            return Status::Unbuilt { place };
+        }
+        Err(Unsimulated::NoMemory) => return Status::NoMemory,
+    };
+    *journal = made.run.journal;
+    let Ok(()) = put_recording(out, made.run.up.bytes()) else {
+        return Status::WriteFault;
+    };
+    if !has_start(&made.load, journal.items()) {
+        return Status::NoSync;
+    }
+    Status::Done
+}
+
+/// Records the workload of the name: writes a line, and the bytes that its simulation sends.
+pub fn record<S: Source, K: Sink>(
+    alloc: Global,
+    name: &str,
+    src: &mut S,
+    out: &mut K,
+    journal: &mut Journal,
+) -> Status
+    requires { journal.old.items ≡ [] }
+    ensures answered { OfFile (S.held src.old name.now) (S.left src.new) (λ file taken.
+        IsRecorded file taken (K.written out.old) (K.written out.new) journal.new.items result) }
+    ensures unwritten { is_unwritten result ≡ true → out.new ≡ out.old }
+    ensures begins { S.begins src.new ≡ one_more (S.begins src.old) }
+    ensures sure { S.sure src.old name.now → result ≢ Status.ReadFault }
+    ensures read { Blames (result ≡ Status.ReadFault) (S.faults src.old) (S.faults src.new) }
+    ensures write { IsWrittenTo (result ≡ Status.WriteFault)
+        (K.broken out.new) (K.faults out.old) (K.faults out.new) }
+{
+    match read_file(alloc, name, src, MOST_OF_WORKLOAD) {
+        Ok(text) => record_text(alloc, &text, out, journal),
+        Err(ReadAll::Failed) => Status::ReadFault,
+        Err(ReadAll::TooLong) => Status::TooLong {
+            limit: MOST_OF_WORKLOAD,
+        },
+        Err(ReadAll::NoMemory) => Status::NoMemory,
+    }
+}

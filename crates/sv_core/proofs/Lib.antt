@@ -1,0 +1,9 @@
+pub mod examples
+pub mod Sections
+pub mod OneWriter
+pub mod Heads
+pub mod TurnsOfOrder
+pub mod OriginsOfTurns
+pub mod OneJournal
+pub mod Runnable
+pub mod Loop

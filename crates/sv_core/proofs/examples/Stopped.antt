@@ -1,0 +1,51 @@
+-- A simulated journal worked out by hand, and its turns.
+use Rattle.std.proofs.Common.{◌≡◌, ℕ, ◌<◌, zero, suc, false, List, [], ◌∷◌, refl, arith, rules, length}
+use Rattle.std.specs.Prelude.{count_by}
+use Rattle.sv_workload.specs.declared.load.Step.{Step}
+use Rattle.sv_workload.specs.Load.{Load, script_of}
+use Rattle.sv_recorder.specs.declared.journal.Kind.TheVariants as kinds
+use Rattle.sv_recorder.specs.declared.journal.Origin.TheVariants.{Call, Sync, Reply}
+use Rattle.sv_recorder.specs.declared.journal.Outcome.TheVariants.{Stored, Ignored, Handled}
+use Rattle.sv_recorder.specs.declared.journal.Item.{Item}
+use Rattle.sv_recorder.specs.Items.{is_call_of}
+use Rattle.sv_recorder.specs.Legal.{IsWhole}
+use Rattle.sv_core.specs.Turns.{Turns}
+use Rattle.sv_core.specs.Turns.{turns_of}
+use Rattle.sv_core.specs.Simulated.{IsSimulated}
+use Rattle.sv_core.proofs.examples.Short.{at, start, stop, mark, turn}
+
+abbrev pub script : List Step
+script = mark 5 9 ∷ start 0 ∷ mark 2 9 ∷ stop 3 ∷ mark 1 9 ∷ []
+
+abbrev pub load : Load
+load = record { ring = 1024; clock = 1000000; cpu = 1000000; base = 536870912; shift = 2; timed = false; lines = []; tasks = []; modules = []; commands = []; scripts = script ∷ []; scheduled = false; schedule = [] }
+
+abbrev pub items : List Item
+items =
+    at 5 0 (Call 0 0) Ignored ∷
+    at 5 0 (Call 0 1) Handled ∷
+    at 5 0 (Sync) Stored ∷
+    at 5 0 (Reply kinds.TraceStart 0) Stored ∷
+    at 5 0 (Reply kinds.Init 0) Stored ∷
+    at 5 0 (Reply kinds.Systime 0) Stored ∷
+    at 5 0 (Reply kinds.ModuleCount 0) Stored ∷
+    at 7 34 (Call 0 2) Stored ∷
+    at 10 37 (Call 0 3) Handled ∷
+    at 10 37 (Reply kinds.TraceStop 0) Stored ∷
+    at 11 39 (Call 0 4) Ignored ∷ []
+
+abbrev pub turns : Turns
+turns = record { steps = turn 0 false ∷ turn 0 false ∷ turn 0 false ∷ turn 0 false ∷ turn 0 false ∷ []; frees = 0 ∷ 0 ∷ 0 ∷ 0 ∷ 0 ∷ 34 ∷ 3 ∷ [] }
+
+turned : turns_of items ≡ turns
+turned = refl
+
+scripts : (writer : ℕ) → writer < length load.scripts → count_by (λ i. is_call_of writer i.origin) items ≡ length (script_of load writer)
+scripts zero h = refl
+scripts (suc writer) h = absurd (omega (arith, h))
+
+whole : IsWhole load items
+whole = record { scripts = scripts; commands = refl }
+
+pub simulated : IsSimulated load items
+simulated = record { legal = search rules; whole = whole; ordered = record { steps = refl; freed = search rules } }

@@ -1,0 +1,5 @@
+pub mod Turns
+pub mod Order
+pub mod Simulated
+pub mod Built
+pub mod Start

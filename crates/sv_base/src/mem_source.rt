@@ -1,8 +1,8 @@
-ghost use Rattle.std.specs.Prelude.{◌≡◌, ◌⊎◌, ◌↔◌, ◌+◌, ◌^◌, ◌<◌, [], Some, IsTrue, IsOk, is_ok, IsErr, IsNone, IfOk, IfSome, OnOk, OnErr, Contains, length, drop, min, false};
+ghost use Rattle.std.specs.Prelude.{◌≡◌, ◌⊎◌, ◌↔◌, ◌+◌, ◌^◌, ◌<◌, [], Some, None, IsTrue, IsOk, is_ok, IsErr, IsNone, IfOk, OnOk, OnErr, Contains, length, drop, min, false};
 ghost use Rattle.std.specs.Io.{ReadsAtMost};
 ghost use Rattle.std.specs.Io.KnownBytes.{ReadConsumes};
 ghost use Rattle.sv_base.specs.Causes.{HasCause, one_more};
-ghost use Rattle.sv_base.specs.Memory.{IsSure, bytes_at, bytes_of, files_of, first_place};
+ghost use Rattle.sv_base.specs.Memory.{IsSure, bytes_at, bytes_of, files_of, first_place, left_of};
 ghost use Rattle.sv_base.specs.Streams.{IsSameFiles, goes_on};
 
 use crate::failed::Failed;
@@ -26,18 +26,18 @@ pub struct MemSource {
 }
 
 impl Model for MemSource {
-    ghost use Rattle.std.specs.Prelude.{drop};
+    ghost use Rattle.std.specs.Prelude.{drop, is_some};
     ghost use Rattle.sv_base.specs.Memory.{MemFiles, bytes_at, files_of};
 
     ghost Value = { MemFiles };
 
-    ghost view = { λ s. record { files = files_of s.files.items; fails = s.fails.items; calls = s.calls; begins = s.begins; faults = s.faults; left = drop s.at (bytes_at (files_of s.files.items) s.file); opened = s.opened } };
+    ghost view = { λ s. record { files = files_of s.files.items; fails = s.fails.items; calls = s.calls; begins = s.begins; faults = s.faults; left = drop s.at (bytes_at (files_of s.files.items) s.file); begun = is_some s.file; opened = s.opened } };
 }
 
 impl MemSource {
     /// A source of these files, of which none is begun. `fails` holds the numbers of the calls that fail.
     pub fn new(files: Vec<(String, Vec<u8>)>, fails: Vec<u64>) -> MemSource
-        ensures { result ≡ record { files = files_of files.items; fails = fails.items; calls = 0; begins = 0; faults = 0; left = []; opened = false } }
+        ensures { result ≡ record { files = files_of files.items; fails = fails.items; calls = 0; begins = 0; faults = 0; left = []; begun = false; opened = false } }
     {
         MemSource {
             files,
@@ -79,7 +79,7 @@ fn rest_of(files: &[(String, Vec<u8>)], file: Option<usize>, at: usize) -> &[u8]
 impl Source for MemSource {
     ghost held = { λ s name. bytes_of s.files name };
 
-    ghost left = { λ s. Some s.left };
+    ghost left = { left_of };
 
     ghost opened = { λ s. s.opened };
 
@@ -94,7 +94,8 @@ impl Source for MemSource {
     /// Looks through `fails` and through the names, one by one.
     fn begin(&mut self, name: &str) -> Result<(), Failed>
         ensures files { IsSameFiles (bytes_of self.old.files) (bytes_of self.new.files) (IsSure self.old) (IsSure self.new) }
-        ensures content { OnOk result (IfSome (bytes_of self.old.files name.now) (λ bytes. Some self.new.left ≡ Some bytes)) }
+        ensures content { OnOk result (left_of self.new ≡ bytes_of self.old.files name.now) }
+        ensures unopened { OnErr result (left_of self.new ≡ None) }
         ensures opened { self.new.opened ≡ is_ok result }
         ensures begins { self.new.begins ≡ one_more self.old.begins }
         ensures sure { IsSure self.old name.now → IsOk result × (self.new.fails ≡ []) }
@@ -116,6 +117,7 @@ impl Source for MemSource {
                 return Ok(());
             }
         }
+        self.file = None;
         self.opened = false;
         self.faults = self.faults.saturating_add(1);
         Err(Failed)
@@ -127,7 +129,7 @@ impl Source for MemSource {
         requires room { 0 < length buf.old }
         ensures files { IsSameFiles (bytes_of self.old.files) (bytes_of self.new.files) (IsSure self.old) (IsSure self.new) }
         ensures bound { ReadsAtMost result buf.new }
-        ensures bytes { ReadConsumes (Some self.old.left) (Some self.new.left) result buf.new }
+        ensures bytes { ReadConsumes (left_of self.old) (left_of self.new) result buf.new }
         ensures opened { self.new.opened ≡ goes_on result }
         ensures begins { self.new.begins ≡ self.old.begins }
         ensures safe { self.old.fails ≡ [] → IsOk result × (self.new.fails ≡ []) }

@@ -1,7 +1,7 @@
 -- What a call does to its devices.
-use Rattle.std.specs.Prelude.{◌≡◌, ℕ, ◌⊎◌, Bool, true, List, [], ◌++◌, Option, Some, None, IfSome}
+use Rattle.std.specs.Prelude.{◌≡◌, ℕ, ◌⊎◌, List, [], ◌++◌, Option, Some, None, IfSome}
 use Rattle.std.specs.Io.KnownBytes.{Appends}
-use Rattle.sv_base.specs.Causes.{Rose, Blames, one_more}
+use Rattle.sv_base.specs.Causes.{Blames, one_more}
 use Rattle.sv_base.specs.Streams.{AppendsPart}
 
 -- a source from which a call reads: it begins no file, is to blame where the call failed, and a safe file does not fail
@@ -9,11 +9,6 @@ pub record IsReadFrom (failed : Type 0) (begins_old begins_new : ℕ) (safe_old 
   pub begins : begins_new ≡ begins_old
   pub safe : safe_old → (failed → ⊥) × safe_new
   pub blames : Blames failed faults_old faults_new
-
--- a sink to which a call writes: where the call failed, the one fault was in its last write, and else there was none
-pub record IsWrittenTo (failed : Type 0) (broken : Bool) (faults_old faults_new : ℕ) : Type 0 where
-  pub ended : failed → (broken ≡ true) × (faults_new ≡ one_more faults_old)
-  pub kept : (failed → ⊥) → faults_new ≡ faults_old
 
 -- these bytes of a file were taken, where the file is known; none where it could not be begun
 abbrev pub HasTaken : Option (List ℕ) → Option (List ℕ) → List ℕ → Type 0
@@ -35,4 +30,4 @@ pub record OfFile (held left : Option (List ℕ)) (fact : List ℕ → List ℕ 
 -- a sink has gained the line, or failed within it
 abbrev pub Says : List ℕ → Option (List ℕ) → Option (List ℕ) → ℕ → ℕ → Type 0
 Says line old new faults_old faults_new =
-    Appends old new line ⊎ (AppendsPart old new line × Rose faults_old faults_new)
+    Appends old new line ⊎ (AppendsPart old new line × (faults_new ≡ one_more faults_old))

@@ -6,18 +6,18 @@
 //! workload's recording is the stream of a legal journal of it in the order of a simulation.
 #![tactic(auto)]
 
-mod answer;
 mod command;
 mod commands;
 mod reading;
 mod scan;
 mod simulated;
 mod status;
+mod top;
 mod view;
 
-pub use answer::offline;
 pub use command::Command;
 pub use status::{Status, say};
+pub use top::offline;
 
 #[cfg(test)]
 mod tests;

@@ -1,6 +1,6 @@
 //! A file that is read whole.
 ghost use Rattle.std.specs.Prelude.{◌≡◌, ◌≢◌, Err};
-ghost use Rattle.sv_base.specs.Causes.{Blames, one_more};
+ghost use Rattle.sv_base.specs.Causes.{Blames, BlamesLast, one_more};
 ghost use Rattle.sv_cli.specs.Devices.{OfFile};
 ghost use Rattle.sv_cli.specs.Reading.{IsReadWhole};
 

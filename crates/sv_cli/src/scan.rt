@@ -1,11 +1,12 @@
 //! The one loop that reads a recording: pieces of its file go through a decoder, and what a view makes
 //! of the events is written.
-ghost use Rattle.std.specs.Prelude.{◌≡◌, ◌≢◌, ◌+◌, ◌<◌, ◌≤◌, ◌^◌, ◌⊎◌, ◌∷◌, ◌++◌, [], List, ℕ, Option, true, false, IsTrue, Err, Ok, IsErr, nat_le, length, IfOk, IfErr, OnOk};
+ghost use Rattle.std.specs.Prelude.{◌≡◌, ◌≢◌, ◌+◌, ◌<◌, ◌≤◌, ◌^◌, ◌⊎◌, ◌∷◌, ◌++◌, [], List, ℕ, Option, true, false, IsTrue, Err, Ok, IsErr, nat_le, length, take, IfOk, IfErr, OnOk};
+ghost use Rattle.sv_prim.specs.Text.{AreBytes};
 ghost use Rattle.sv_packet.specs.declared.event.TimedEvent.{TimedEvent as Timed};
 ghost use Rattle.sv_stream.specs.Decoding.{IsSettled, pushed};
-ghost use Rattle.sv_base.specs.Causes.{Blames, one_more};
+ghost use Rattle.sv_base.specs.Causes.{Blames, BlamesLast, one_more};
 ghost use Rattle.sv_cli.specs.Answer.{piece_size, IsShown};
-ghost use Rattle.sv_cli.specs.Devices.{IsReadFrom, IsWrittenTo, OfFile};
+ghost use Rattle.sv_cli.specs.Devices.{IsReadFrom, OfFile};
 ghost use Rattle.sv_cli.specs.Scan.{HasGiven, IsDrained, IsFed, IsUnfed, IsScanned, IsBetween, IsEnough, IsScanEnd, status_for};
 
 use crate::status::Status;
@@ -78,6 +79,15 @@ fn drain<V: View>(
     }
 }
 
+/// The bytes that came into a buffer.
+fn piece_of(buf: &[u8], count: usize) -> &[u8]
+    requires { count ≤ length buf.now }
+    ensures front { result.now ≡ take count buf.now }
+    ensures bytes { AreBytes result.now }
+{
+    &buf[..count]
+}
+
 /// Fills the buffer from the file and pushes that to the decoder, or says why not. `total` bytes
 /// were pushed before. Says how many bytes came: fewer than a piece only at the end.
 fn feed<S: Source>(
@@ -101,10 +111,11 @@ fn feed<S: Source>(
         Ok(count) => count,
         Err(Failed) => return Err(Cut::Unread),
     };
+    let piece = piece_of(buf, count);
     if MOST_BYTES - total < count as u64 {
         return Err(Cut::TooLong);
     }
-    if decoder.push(&buf[..count]).is_err() {
+    if decoder.push(piece).is_err() {
         return Err(Cut::NoMemory);
     }
     Ok(count)
@@ -157,10 +168,13 @@ impl<V: View + Drop> Scan<V> {
             IsScanEnd V.text left (S.left src.new) written (K.written out.new) (Err cut)) }
         ensures source { IsReadFrom (result ≡ Err Cut.Unread) (S.begins src.old) (S.begins src.new)
             (S.safe src.old) (S.safe src.new) (S.faults src.old) (S.faults src.new) }
-        ensures sink { IsWrittenTo (result ≡ Err Cut.Unwritten)
+        ensures sink { BlamesLast (result ≡ Err Cut.Unwritten)
             (K.broken out.new) (K.faults out.old) (K.faults out.new) }
     {
-        let count = feed(src, &mut self.decoder, self.total, buf)?;
+        let count = match feed(src, &mut self.decoder, self.total, buf) {
+            Ok(count) => count,
+            Err(cut) => return Err(cut),
+        };
         self.total += count as u64;
         let Ok(damaged) = drain(&mut self.decoder, &mut self.view, &mut self.lines) else {
             return Err(Cut::NoMemory);
@@ -180,7 +194,7 @@ impl<V: View + Drop> Scan<V> {
             IsEnough now scanned.input →
             IsScanEnd V.text left now written (K.written out.new) result }
         ensures read { result ≢ Err Cut.Unread }
-        ensures sink { IsWrittenTo (result ≡ Err Cut.Unwritten)
+        ensures sink { BlamesLast (result ≡ Err Cut.Unwritten)
             (K.broken out.new) (K.faults out.old) (K.faults out.new) }
     {
         let end = self.decoder.finish();
@@ -208,7 +222,7 @@ fn scan_open<S: Source, K: Sink, V: View + Drop>(
         (K.written out.old) (K.written out.new) result }
     ensures source { IsReadFrom (result ≡ Err Cut.Unread) (S.begins src.old) (S.begins src.new)
         (S.safe src.old) (S.safe src.new) (S.faults src.old) (S.faults src.new) }
-    ensures sink { IsWrittenTo (result ≡ Err Cut.Unwritten)
+    ensures sink { BlamesLast (result ≡ Err Cut.Unwritten)
         (K.broken out.new) (K.faults out.old) (K.faults out.new) }
 {
     let mut scan = Scan::new(alloc, view);
@@ -255,7 +269,7 @@ pub fn scan_file<S: Source, K: Sink, V: View + Drop>(
     ensures begins { S.begins src.new ≡ one_more (S.begins src.old) }
     ensures sure { S.sure src.old name.now → result ≢ Status.ReadFault }
     ensures read { Blames (result ≡ Status.ReadFault) (S.faults src.old) (S.faults src.new) }
-    ensures write { IsWrittenTo (result ≡ Status.WriteFault)
+    ensures write { BlamesLast (result ≡ Status.WriteFault)
         (K.broken out.new) (K.faults out.old) (K.faults out.new) }
 {
     let Ok(()) = src.begin(name) else {

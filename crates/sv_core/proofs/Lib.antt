@@ -7,3 +7,4 @@ pub mod OriginsOfTurns
 pub mod OneJournal
 pub mod Runnable
 pub mod Loop
+pub mod Shared

@@ -13,3 +13,4 @@ pub mod Standing
 pub mod Finishing
 pub mod Giving
 pub mod Growing
+pub mod Shared

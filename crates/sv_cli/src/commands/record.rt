@@ -1,13 +1,13 @@
 //! The command `record`: the recording that a workload gives.
 ghost use Rattle.std.specs.Prelude.{◌≡◌, ◌≢◌, ◌≤◌, ◌^◌, ◌++◌, [], length, true, IsErr, OnOk, OnErr};
 ghost use Rattle.std.specs.Io.KnownBytes.{Appends};
-ghost use Rattle.sv_base.specs.Causes.{Blames, one_more};
+ghost use Rattle.sv_base.specs.Causes.{Blames, BlamesLast, one_more};
 ghost use Rattle.sv_base.specs.Streams.{AppendsPart};
-ghost use Rattle.sv_cli.specs.Devices.{OfFile, IsWrittenTo};
+ghost use Rattle.sv_cli.specs.Devices.{OfFile};
 ghost use Rattle.sv_cli.specs.Recorded.{header, is_unwritten, IsTextRecorded, IsRecorded};
 
 use crate::reading::read_file;
-use crate::simulated::{Unsimulated, simulated};
+use crate::simulated::{Simulation, Unsimulated, simulated};
 use crate::status::Status;
 use std::alloc::Global;
 use sv_base::{Failed, ReadAll, Sink, Source, put_all};
@@ -22,10 +22,11 @@ fn put_recording<K: Sink>(out: &mut K, bytes: &[u8]) -> Result<(), Failed>
     ensures ok { OnOk result (Appends (K.written out.old) (K.written out.new) (header ++ bytes.now)) }
     ensures err { OnErr result
         (AppendsPart (K.written out.old) (K.written out.new) (header ++ bytes.now)) }
-    ensures sink { IsWrittenTo (IsErr result) (K.broken out.new) (K.faults out.old) (K.faults out.new) }
+    ensures sink { BlamesLast (IsErr result) (K.broken out.new) (K.faults out.old) (K.faults out.new) }
 {
     put_all(out, b"; sysview recording\n")?;
-    put_all(out, bytes)
+    put_all(out, bytes)?;
+    Ok(())
 }
 
 /// Records the workload that the text says.
@@ -35,10 +36,10 @@ fn record_text<K: Sink>(alloc: Global, text: &[u8], out: &mut K, journal: &mut J
     ensures recorded { IsTextRecorded text.now
         (K.written out.old) (K.written out.new) journal.new.items result }
     ensures unwritten { is_unwritten result ≡ true → out.new ≡ out.old }
-    ensures sink { IsWrittenTo (result ≡ Status.WriteFault)
+    ensures sink { BlamesLast (result ≡ Status.WriteFault)
         (K.broken out.new) (K.faults out.old) (K.faults out.new) }
 {
-    let made = match simulated(alloc, text) {
+    let Simulation { load, run } = match simulated(alloc, text) {
         Ok(made) => made,
         Err(Unsimulated::Line { line, reason }) => return Status::Workload { line, reason },
         Err(Unsimulated::Unbuilt) => {
@@ -47,11 +48,11 @@ fn record_text<K: Sink>(alloc: Global, text: &[u8], out: &mut K, journal: &mut J
         }
         Err(Unsimulated::NoMemory) => return Status::NoMemory,
     };
-    *journal = made.run.journal;
-    let Ok(()) = put_recording(out, made.run.up.bytes()) else {
+    *journal = run.journal;
+    let Ok(()) = put_recording(out, run.up.bytes()) else {
         return Status::WriteFault;
     };
-    if !has_start(&made.load, journal.items()) {
+    if !has_start(&load, journal.items()) {
         return Status::NoSync;
     }
     Status::Done
@@ -72,7 +73,7 @@ pub fn record<S: Source, K: Sink>(
     ensures begins { S.begins src.new ≡ one_more (S.begins src.old) }
     ensures sure { S.sure src.old name.now → result ≢ Status.ReadFault }
     ensures read { Blames (result ≡ Status.ReadFault) (S.faults src.old) (S.faults src.new) }
-    ensures write { IsWrittenTo (result ≡ Status.WriteFault)
+    ensures write { BlamesLast (result ≡ Status.WriteFault)
         (K.broken out.new) (K.faults out.old) (K.faults out.new) }
 {
     match read_file(alloc, name, src, MOST_OF_WORKLOAD) {

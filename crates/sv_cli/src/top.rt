@@ -1,10 +1,10 @@
 //! What the program does, and how it ends.
 ghost use Rattle.std.specs.Prelude.{◌≡◌, ◌≢◌, ◌↔◌, [], true};
-ghost use Rattle.sv_base.specs.Causes.{Blames, one_more};
+ghost use Rattle.sv_base.specs.Causes.{Blames, BlamesLast, one_more};
 ghost use Rattle.sv_cli.specs.declared.command.Command.{Command as Asked};
 ghost use Rattle.sv_cli.specs.AnswersTo.{AnswersTo};
 ghost use Rattle.sv_cli.specs.Command.{IsCommand, file_of, is_unwritten};
-ghost use Rattle.sv_cli.specs.Devices.{OfFile, IsWrittenTo, Says};
+ghost use Rattle.sv_cli.specs.Devices.{OfFile, Says};
 ghost use Rattle.sv_cli.specs.ErrorLine.{error_line};
 
 use crate::command::Command;
@@ -16,6 +16,32 @@ use crate::status::{Status, say};
 use std::alloc::Global;
 use sv_base::{Sink, Source};
 use sv_recorder::Journal;
+
+/// Does the command, and says how it ended.
+fn answer<S: Source, K: Sink>(
+    alloc: Global,
+    command: Command<'_>,
+    src: &mut S,
+    out: &mut K,
+    journal: &mut Journal,
+) -> Status
+    requires { journal.old.items ≡ [] }
+    ensures answered { OfFile (S.held src.old (file_of command.entry)) (S.left src.new) (λ file taken.
+        AnswersTo command.entry file taken (K.written out.old) (K.written out.new)
+        journal.new.items result) }
+    ensures unwritten { is_unwritten command.entry result ≡ true → out.new ≡ out.old }
+    ensures begins { S.begins src.new ≡ one_more (S.begins src.old) }
+    ensures sure { S.sure src.old (file_of command.entry) → result ≢ Status.ReadFault }
+    ensures read { Blames (result ≡ Status.ReadFault) (S.faults src.old) (S.faults src.new) }
+    ensures write { BlamesLast (result ≡ Status.WriteFault)
+        (K.broken out.new) (K.faults out.old) (K.faults out.new) }
+{
+    match command {
+        Command::Events(name) => scan_file(alloc, Events, name, src, out),
+        Command::Check(name) => scan_file(alloc, Check::new(), name, src, out),
+        Command::Record(name) => record(alloc, name, src, out, journal),
+    }
+}
 
 /// Does the command that the words name, and says how it ended.
 ///
@@ -55,7 +81,7 @@ pub fn offline<S: Source, K: Sink>(
 
     // A device is to blame only where it failed, and a failed write is the last.
     ensures read { Blames (result ≡ Status.ReadFault) (S.faults src.old) (S.faults src.new) }
-    ensures write { IsWrittenTo (result ≡ Status.WriteFault)
+    ensures write { BlamesLast (result ≡ Status.WriteFault)
         (K.broken out.new) (K.faults out.old) (K.faults out.new) }
 
     // The error sink has the status's line, or has failed within it.
@@ -63,9 +89,7 @@ pub fn offline<S: Source, K: Sink>(
         (K.written err.old) (K.written err.new) (K.faults err.old) (K.faults err.new) }
 {
     let status = match Command::parse(words) {
-        Some(Command::Events(name)) => scan_file(alloc, Events, name, src, out),
-        Some(Command::Check(name)) => scan_file(alloc, Check::new(), name, src, out),
-        Some(Command::Record(name)) => record(alloc, name, src, out, journal),
+        Some(command) => answer(alloc, command, src, out, journal),
         None => Status::Usage,
     };
     say(err, &status);

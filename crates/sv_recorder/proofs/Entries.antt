@@ -14,6 +14,7 @@ use Rattle.sv_recorder.specs.declared.journal.Origin.TheVariants.{Call, Sync, Re
 use Rattle.sv_recorder.specs.declared.journal.Outcome.{Outcome}
 use Rattle.sv_recorder.specs.declared.journal.Outcome.TheVariants.{Stored, Refused, Ignored}
 use Rattle.sv_recorder.specs.declared.journal.Item.{Item}
+use Rattle.sv_recorder.specs.Answer.{Gains}
 use Rattle.sv_recorder.specs.Freed.{wrote_if, AreFreed}
 use Rattle.sv_recorder.specs.Items.{latest_first, last_moment, is_stop_reply, is_stored, is_refused, is_sync, is_written, is_after_refused_overflow, block_of}
 use Rattle.sv_recorder.specs.Legal.{is_head, origins_of}
@@ -86,6 +87,27 @@ last_again : (earlier : List Item) (i : Item) (moment : ℕ) (stored : Bool) →
     → last_moment earlier ≡ moment → last_moment (i ∷ earlier) ≡ moment
 last_again earlier i moment true outcome at other before = last_moment-stored earlier i (ap is_stored outcome) other ∙ at
 last_again earlier i moment false outcome at other before = last_moment-other earlier i (ap (λ (b : Bool). b && not (is_sync i.origin)) (ap is_stored outcome)) ∙ before
+
+-- the journal has gained an item alone, or one after another
+pub gains_one : (old new : List Item) (origin : Origin) (moment freed : ℕ) (outcome told : Outcome) → new ≡ old ++ made origin moment freed outcome ∷ [] → told ≡ outcome → Gains old new origin told
+gains_one old new origin moment freed outcome told gained is = record {
+  before = [];
+  item = made origin moment freed outcome;
+  later = [];
+  gained = gained;
+  origin_is = refl;
+  outcome_is = sym is;
+}
+
+pub gains_two : (old mid new : List Item) (i : Item) (origin : Origin) (moment freed : ℕ) (outcome told : Outcome) → mid ≡ old ++ i ∷ [] → new ≡ mid ++ made origin moment freed outcome ∷ [] → told ≡ outcome → Gains old new origin told
+gains_two old mid new i origin moment freed outcome told first second is = record {
+  before = i ∷ [];
+  item = made origin moment freed outcome;
+  later = [];
+  gained = second ∙ ap (λ (is : List Item). is ++ made origin moment freed outcome ∷ []) first ∙ append_assoc old (i ∷ []) (made origin moment freed outcome ∷ []);
+  origin_is = refl;
+  outcome_is = sym is;
+}
 
 -- a write leaves the workload and the moment
 pub same_load : {U : Type 0} (old mid : Book U) → mid ≡ record old { journal = mid.journal; up = mid.up } → mid.load.now ≡ old.load.now

@@ -7,7 +7,7 @@ use Rattle.sv_workload.specs.Load.{script_of}
 use Rattle.sv_recorder.specs.declared.answer.Answer.{Answer}
 use Rattle.sv_recorder.specs.declared.book.Book.{Book}
 use Rattle.sv_recorder.specs.declared.journal.Origin.TheVariants.{Call}
-use Rattle.sv_recorder.specs.Answer.{IsTold}
+use Rattle.sv_recorder.specs.Answer.{IsAnswered}
 use Rattle.sv_recorder.specs.Freed.{AreFreed}
 use Rattle.sv_recorder.specs.Items.{latest_first, is_call_of}
 use Rattle.sv_recorder.specs.Legal.{IsNextStep}
@@ -60,12 +60,13 @@ module _ {U : Type 0} (ring : U → List (List ℕ)) (size limit : U → ℕ) (s
       let of = section_of ring size limit sent freed way old new place step r (subst (λ (w : ℕ). Gone old new w place step) only goes) in
       subst (λ (v : Recording). SectionOf v new writer) is (subst (λ (w : ℕ). SectionOf (Shown old) new w) (sym only) of)
 
-  pub told_shown : (old new : Book U) (writer place : ℕ) (answer : Answer) (view : Recording) → Shown old ≡ view → Keeping old place → writer ≡ 0
-      → IsTold old.load.now new.journal.items writer place answer
-      → IsTold view.load new.journal.items writer (count_by (λ i. is_call_of writer i.origin) view.items) answer
-  told_shown old new writer place answer view is r only told =
+  pub answered_shown : (old new : Book U) (writer place : ℕ) (answer : Answer) (view : Recording) → Shown old ≡ view → Keeping old place → writer ≡ 0
+      → IsAnswered old.load.now old.journal.items new.journal.items (Call writer place) answer
+      → IsAnswered view.load view.items new.journal.items (Call writer (count_by (λ i. is_call_of writer i.origin) view.items)) answer
+  answered_shown old new writer place answer view is r only answered =
       let at : place ≡ count_by (λ i. is_call_of writer i.origin) old.journal.items = subst (λ (w : ℕ). place ≡ count_by (λ i. is_call_of w i.origin) old.journal.items) (sym only) r.place_is in
-      subst (λ (v : Recording). IsTold v.load new.journal.items writer (count_by (λ i. is_call_of writer i.origin) v.items) answer) is (subst (λ (n : ℕ). IsTold old.load.now new.journal.items writer n answer) at told)
+      subst (λ (v : Recording). IsAnswered v.load v.items new.journal.items (Call writer (count_by (λ i. is_call_of writer i.origin) v.items)) answer) is
+      (subst (λ (n : ℕ). IsAnswered old.load.now old.journal.items new.journal.items (Call writer n) answer) at answered)
 
   -- the script is not through
   pub not_through : (old : Book U) (writer place : ℕ) (steps : List Step) (view : Recording) → Shown old ≡ view → Keeping old place → writer ≡ 0 → steps ≡ script_of old.load.now writer → (place ≡ length steps → ⊥)

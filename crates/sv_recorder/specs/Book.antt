@@ -46,7 +46,3 @@ pub record Goes {U : Type 0} (ring : U → List (List ℕ)) (size limit : U → 
   -- what is known to be freed, where the book was in step with its ring
   pub moved : IsInStep sent old →
       IsInStep sent new × AreFreed old.load.now (latest_first old.journal.items) more (way old.up) (freed old.up) (way new.up) (freed new.up)
-
--- the last item is of this origin
-abbrev pub IsLast : Origin → List Item → Type 0
-IsLast origin items = (before : List Item) × (item : Item) × (items ≡ before ++ item ∷ []) × (item.origin ≡ origin)

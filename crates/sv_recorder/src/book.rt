@@ -40,7 +40,8 @@ fn stores<U: UpWriter>(up: &mut U, block: &[u8]) -> bool
     }
 }
 
-fn outcome_of(stored: bool) -> Outcome
+/// What became of a block.
+pub fn outcome_of(stored: bool) -> Outcome
     ensures { result ≡ outcome_if stored }
 {
     if stored {

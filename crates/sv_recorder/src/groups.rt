@@ -25,7 +25,8 @@ impl<'w, U: UpWriter + Drop> Book<'w, U> {
     ghost use Rattle.sv_recorder.specs.declared.journal.Origin.TheVariants.{Call, Sync};
     ghost use Rattle.sv_workload.specs.declared.load.Act.TheVariants as acts;
     ghost use Rattle.sv_recorder.specs.Book.{Holds, Goes};
-    ghost use Rattle.sv_recorder.specs.Answer.{answer_of, IsTold};
+    ghost use Rattle.sv_recorder.specs.Answer.{answer_of, Gains, IsAnswered};
+    ghost use Rattle.sv_recorder.specs.declared.journal.Outcome.{Outcome};
 
     /// Ten zero bytes, by which a host finds its place.
     fn sync(&mut self)
@@ -126,21 +127,6 @@ impl<'w, U: UpWriter + Drop> Book<'w, U> {
         self.on = false;
     }
 
-    /// What became of the last item, which is a call.
-    fn last_answer(&self) -> Answer
-        requires { 0 < length self.now.journal.items }
-        ensures { (before : List Item) (item : Item) →
-            self.now.journal.items ≡ before ++ item ∷ [] → result ≡ answer_of item.outcome }
-    {
-        let items = self.journal.items();
-        match items[items.len() - 1].outcome {
-            Outcome::Stored => Answer::Sent,
-            Outcome::Refused => Answer::Refused,
-            Outcome::Ignored => Answer::Ignored,
-            Outcome::Handled => Answer::Ran,
-        }
-    }
-
     /// A step that records an event.
     fn event(&mut self, writer: u32, step: u32) -> Answer
         requires formed { IsFormed self.old.load.now (Call writer step) }
@@ -159,12 +145,12 @@ impl<'w, U: UpWriter + Drop> Book<'w, U> {
             self.old.load.now (Call writer step)) self.old self.new }
         ensures later { self.new.last ≤ self.new.moment }
         ensures pending { self.new.pending ≤ self.old.pending + 1 }
-        ensures told { (before : List Item) × (item : Item)
-            × (self.new.journal.items ≡ before ++ item ∷ []) × (item.origin ≡ Call writer step)
-            × (result ≡ answer_of item.outcome) }
+        ensures answered { (outcome : Outcome)
+            × Gains self.old.journal.items self.new.journal.items (Call writer step) outcome
+            × (result ≡ answer_of outcome) }
     {
-        self.packet(Origin::Call { writer, step });
-        self.last_answer()
+        let outcome = self.packet(Origin::Call { writer, step });
+        Answer::of(outcome)
     }
 
     /// The next step of a writer's script: its ticks pass, and then it records what it says.
@@ -190,7 +176,8 @@ impl<'w, U: UpWriter + Drop> Book<'w, U> {
         ensures moment { self.new.moment ≡ self.old.moment + step.now.advance }
         ensures later { self.new.last ≤ self.new.moment }
         ensures pending { self.new.pending ≤ self.old.pending + 4 }
-        ensures told { IsTold self.old.load.now self.new.journal.items writer place result }
+        ensures answered { IsAnswered self.old.load.now self.old.journal.items self.new.journal.items
+            (Call writer place) result }
     {
         self.moment += step.advance;
         match &step.act {

@@ -5,14 +5,15 @@ ghost use Rattle.sv_recorder.specs.Items.{is_stop_reply};
 ghost use Rattle.sv_recorder.specs.Plain.{IsPlain};
 ghost use Rattle.sv_recorder.specs.Writes.{IsPacketHere, is_telling, made};
 
-use crate::book::Book;
+use crate::book::{Book, outcome_of};
 use crate::forming::form;
 use crate::journal::{Origin, Outcome};
 use sv_ring::UpWriter;
 
 impl<'w, U: UpWriter + Drop> Book<'w, U> {
     ghost use Rattle.std.specs.Prelude.{true, if◌then◌else◌};
-    ghost use Rattle.sv_recorder.specs.Book.{Holds, HoldsAs, Goes, IsLast, head_if};
+    ghost use Rattle.sv_recorder.specs.Answer.{Gains};
+    ghost use Rattle.sv_recorder.specs.Book.{Holds, HoldsAs, Goes, head_if};
 
     /// What a write leaves pending, and as the last moment.
     fn settle(&mut self, stored: bool)
@@ -31,7 +32,7 @@ impl<'w, U: UpWriter + Drop> Book<'w, U> {
     }
 
     /// Records a packet while nothing is pending.
-    fn write_plain(&mut self, origin: Origin)
+    fn write_plain(&mut self, origin: Origin) -> Outcome
         requires telling { is_telling origin ≡ true }
         requires formed { IsFormed self.old.load.now origin }
         requires plain { IsPlain self.old.load.now }
@@ -48,18 +49,19 @@ impl<'w, U: UpWriter + Drop> Book<'w, U> {
         ensures goes { Goes U.ring U.size U.limit U.sent U.freed U.way (head_if origin) 2 (packet_bytes
             self.old.load.now origin) self.old self.new }
         ensures on { self.new.on ≡ true }
-        ensures last { IsLast origin self.new.journal.items }
+        ensures item { Gains self.old.journal.items self.new.journal.items origin result }
         ensures later { self.new.last ≤ self.new.moment }
         ensures pending { self.new.pending ≤ 1 }
     {
         let block = form(self.load, origin, self.moment, self.last);
         let stored = self.write(origin, &block);
         self.settle(stored);
+        outcome_of(stored)
     }
 
     /// Records a packet while packets are pending: behind an overflow with their count, and refused
     /// with it where that is refused.
-    fn write_behind(&mut self, origin: Origin)
+    fn write_behind(&mut self, origin: Origin) -> Outcome
         requires telling { is_telling origin ≡ true }
         requires formed { IsFormed self.old.load.now origin }
         requires plain { IsPlain self.old.load.now }
@@ -77,7 +79,7 @@ impl<'w, U: UpWriter + Drop> Book<'w, U> {
         ensures goes { Goes U.ring U.size U.limit U.sent U.freed U.way (head_if origin) 2 (packet_bytes
             self.old.load.now origin) self.old self.new }
         ensures on { self.new.on ≡ true }
-        ensures last { IsLast origin self.new.journal.items }
+        ensures item { Gains self.old.journal.items self.new.journal.items origin result }
         ensures later { self.new.last ≤ self.new.moment }
         ensures pending { self.new.pending ≤ self.old.pending + 1 }
     {
@@ -87,16 +89,17 @@ impl<'w, U: UpWriter + Drop> Book<'w, U> {
         if !self.write(overflow, &block) {
             self.note(origin, Outcome::Refused);
             self.pending = count + 1;
-            return;
+            return Outcome::Refused;
         }
         let block = form(self.load, origin, self.moment, self.moment);
         let stored = self.write(origin, &block);
         self.last = self.moment;
         self.settle(stored);
+        outcome_of(stored)
     }
 
     /// Records a packet: ignores it while the recorder is off.
-    pub fn packet(&mut self, origin: Origin)
+    pub fn packet(&mut self, origin: Origin) -> Outcome
         requires telling { is_telling origin ≡ true }
         requires formed { IsFormed self.old.load.now origin }
         requires plain { IsPlain self.old.load.now }
@@ -112,18 +115,18 @@ impl<'w, U: UpWriter + Drop> Book<'w, U> {
         ensures goes { Goes U.ring U.size U.limit U.sent U.freed U.way (head_if origin) 2 (packet_bytes
             self.old.load.now origin) self.old self.new }
         ensures on { self.new.on ≡ self.old.on }
-        ensures last { IsLast origin self.new.journal.items }
+        ensures item { Gains self.old.journal.items self.new.journal.items origin result }
         ensures later { self.new.last ≤ self.new.moment }
         ensures pending { self.new.pending ≤ self.old.pending + 1 }
     {
         if !self.on {
             self.note(origin, Outcome::Ignored);
-            return;
+            return Outcome::Ignored;
         }
         if self.pending > 0 {
-            self.write_behind(origin);
+            self.write_behind(origin)
         } else {
-            self.write_plain(origin);
+            self.write_plain(origin)
         }
     }
 }

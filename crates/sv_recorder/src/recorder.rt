@@ -1,7 +1,7 @@
 ghost use Rattle.std.specs.Prelude.{◌≡◌, ℕ, ◌+◌, ◌-◌, ◌<◌, ◌≤◌, ◌↔◌, [], ◌++◌, None, IsNone, IsSome, IfSome, IfNone, IfOk, count_by, length, min, take, drop};
 ghost use Rattle.sv_workload.specs.Load.{script_of};
 ghost use Rattle.sv_workload.specs.Need.{need_bytes};
-ghost use Rattle.sv_recorder.specs.Answer.{IsTold};
+ghost use Rattle.sv_recorder.specs.Answer.{IsAnswered};
 ghost use Rattle.sv_recorder.specs.Clock.{clock_of};
 ghost use Rattle.sv_recorder.specs.Freed.{AreFreed};
 ghost use Rattle.sv_recorder.specs.Items.{latest_first, is_call_of, is_on, pending_at};
@@ -60,6 +60,8 @@ pub struct Finished<U: UpWriter + Drop> {
 }
 
 impl<'w, U: UpWriter + Drop> Recorder<'w, U> {
+    ghost use Rattle.sv_recorder.specs.declared.journal.Origin.TheVariants.{Call};
+
     /// A recorder that has recorded nothing and is off, over a ring that has sent nothing. Room for
     /// all items of the workload's journal is reserved; after NoMemory the ring is dropped.
     pub fn new(alloc: Global, load: &'w Workload, up: U) -> Result<Recorder<'w, U>, NoMemory>
@@ -159,9 +161,11 @@ impl<'w, U: UpWriter + Drop> Recorder<'w, U> {
             (s : IsSection self.old.items self.new.items writer None)
             × AreFreed self.old.load (latest_first self.old.items) s.more self.old.way self.old.freed
             self.new.way self.new.freed) }
-        ensures told { IfSome result
-            (IsTold self.old.load self.new.items writer
-            (count_by (λ i. is_call_of writer i.origin) self.old.items)) }
+
+        // The answer is what became of the call of this step, wherever it stands in what is added.
+        ensures answered { IfSome result
+            (IsAnswered self.old.load self.old.items self.new.items
+            (Call writer (count_by (λ i. is_call_of writer i.origin) self.old.items))) }
     {
         let load = self.book.load;
         let steps = load.steps(writer);

@@ -4,7 +4,7 @@ use Rattle.sv_recorder.specs.declared.journal.Outcome.TheVariants.{Ignored}
 use Rattle.sv_recorder.specs.Book.{head_if}
 use Rattle.sv_recorder.specs.Formed.{packet_bytes}
 use Rattle.sv_recorder.specs.Items.{latest_first, is_stop_reply}
-use Rattle.sv_recorder.proofs.Entries.{ignored-holds, and-not, headed_one}
+use Rattle.sv_recorder.proofs.Entries.{ignored-holds, and-not, headed_one, gains_one}
 use Rattle.sv_recorder.proofs.Freed.{ignored_unwritten}
 use Rattle.sv_recorder.proofs.Going.{goes-note, goes-less}
 use Rattle.sv_recorder.proofs.Recorded.{not_overflow}
@@ -30,3 +30,9 @@ returns-then-not-self-clause-goes g c =
     let noted = goes-note u.ring u.size u.limit u.sent u.freed u.way old c.note.new.self c.args.origin Ignored c.note.ensures.rest c.note.ensures.capacity c.note.ensures.item (headed_one c.args.origin old.moment (u.freed old.up) Ignored)
     refl (not_overflow c.args.origin c.requires.telling) (ignored_unwritten (latest_first old.journal.items) c.args.origin old.moment (u.freed old.up) c.requires.telling) in
     goes-less u.ring u.size u.limit u.sent u.freed u.way old c.note.new.self (head_if c.args.origin) 1 2 0 (packet_bytes old.load.now c.args.origin) noted (omega arith) (omega arith)
+
+pub returns-then-not-self-clause-item : goal.returns-then-not-self-clause-item
+returns-then-not-self-clause-item g c =
+    let u = g.U.UpWriter in
+    let old = c.args.self.now in
+    gains_one old.journal.items c.note.new.self.journal.items c.args.origin old.moment (u.freed old.up) Ignored Ignored c.note.ensures.item refl

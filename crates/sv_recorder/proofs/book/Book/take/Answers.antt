@@ -52,13 +52,13 @@ returns-in-Event-clause-goes g c =
     let within = event_within c.args.step.now c.in-Event.field-0 (packet_bytes load (Call c.args.writer c.args.place)) c.in-Event.is (packet_is load c.args.writer c.args.place (acts.Event c.in-Event.field-0) act) in
     goes-less u.ring u.size u.limit u.sent u.freed u.way _ c.event.new.self (Call c.args.writer c.args.place ∷ []) 2 (step_items c.args.step.now) (packet_bytes load (Call c.args.writer c.args.place)) (step_bytes c.args.step.now) c.event.ensures.goes within.0 within.1
 
-pub returns-in-Event-clause-told : goal.returns-in-Event-clause-told
-returns-in-Event-clause-told g c =
+pub returns-in-Event-clause-answered : goal.returns-in-Event-clause-answered
+returns-in-Event-clause-answered g c =
     let load = c.args.self.now.load.now in
     let act = act_at load c.args.writer c.args.place c.args.step.now (acts.Event c.in-Event.field-0) c.requires.step c.in-Event.is in
     let owes = event_owes load c.args.writer c.args.place (acts.Event c.in-Event.field-0) act refl refl in
-    let t = c.event.ensures.told in
-    inr (owes.1, t.0, t.1, t.2, t.3, t.4)
+    let a = c.event.ensures.answered in
+    inr (owes.1, a.0, a.1, a.2)
 
 pub returns-in-Start-clause-kept : goal.returns-in-Start-clause-kept
 returns-in-Start-clause-kept g c = λ k next clock.
@@ -71,5 +71,5 @@ returns-in-Start-clause-goes g c =
     let within = start_within c.args.step.now c.in-Start.is in
     goes-less u.ring u.size u.limit u.sent u.freed u.way _ c.start.new.self (Call c.args.writer c.args.place ∷ []) 10 (step_items c.args.step.now) 170 (step_bytes c.args.step.now) c.start.ensures.goes within.0 within.1
 
-pub returns-in-Start-clause-told : goal.returns-in-Start-clause-told
-returns-in-Start-clause-told g c = inl (handles_start c.args.self.now.load.now c.args.writer c.args.place (act_at c.args.self.now.load.now c.args.writer c.args.place c.args.step.now acts.Start c.requires.step c.in-Start.is), refl)
+pub returns-in-Start-clause-answered : goal.returns-in-Start-clause-answered
+returns-in-Start-clause-answered g c = inl (handles_start c.args.self.now.load.now c.args.writer c.args.place (act_at c.args.self.now.load.now c.args.writer c.args.place c.args.step.now acts.Start c.requires.step c.in-Start.is), refl)

@@ -1,6 +1,9 @@
-use Rattle.std.proofs.Common.{◌∙◌, ◌≤◌, ◌+◌, ℕ, length, subst, sym}
+use Rattle.std.proofs.Common.{◌∙◌, ◌≤◌, ◌+◌, ℕ, length, refl, ap, subst, sym}
+use Rattle.sv_recorder.specs.declared.journal.Origin.TheVariants.{Overflow}
+use Rattle.sv_recorder.specs.declared.journal.Outcome.TheVariants.{Stored, Refused}
 use Rattle.sv_recorder.specs.Formed.{block_bytes}
-use Rattle.sv_recorder.proofs.Entries.{refused-holds, behind-holds, behind-goes, refused-goes, as_long, room_behind, same_load, same_moment}
+use Rattle.sv_recorder.specs.Writes.{made, outcome_if}
+use Rattle.sv_recorder.proofs.Entries.{refused-holds, behind-holds, behind-goes, refused-goes, as_long, room_behind, same_load, same_moment, gains_two}
 use Rattle.sv_recorder.proofs.book.Book.write_behind.Goals as goal
 
 pub returns-then-not-write-clause-kept : goal.returns-then-not-write-clause-kept
@@ -45,3 +48,18 @@ returns-then-not-write-clause-goes g c =
     refused-goes u.ring u.size u.limit u.sent u.freed u.way c.args.self.now c.write.new.self c.note.new.self c.args.origin c.deref.result.now _
     c.write.ensures.rest c.note.ensures.rest c.requires.ring c.write.ensures.same c.write.ensures.capacity c.note.ensures.capacity (rw c.if-not-write.true at c.write.ensures.writes) (rw c.if-not-write.true at c.write.ensures.moves)
     (c.deref.ensures.0 ∙ c.form-block.ensures.block) c.note.ensures.item c.requires.telling
+
+pub returns-then-not-write-clause-item : goal.returns-then-not-write-clause-item
+returns-then-not-write-clause-item g c =
+    let u = g.U.UpWriter in
+    let old = c.args.self.now in
+    let w = rw c.if-not-write.true at c.write.ensures.writes in
+    gains_two old.journal.items c.write.new.self.journal.items c.note.new.self.journal.items (made (Overflow old.pending) old.moment (u.freed c.write.new.self.up) Refused) c.args.origin c.write.new.self.moment (u.freed c.write.new.self.up) Refused Refused w.item c.note.ensures.item refl
+
+pub returns-clause-item : goal.returns-clause-item
+returns-clause-item g c =
+    let u = g.U.UpWriter in
+    let old = c.args.self.now in
+    let w = rw c.if-not-write.false at c.write.ensures.writes in
+    gains_two old.journal.items c.write.new.self.journal.items c.settle.new.self.journal.items (made (Overflow old.pending) old.moment (u.freed c.write.new.self.up) Stored) c.args.origin c.write.new.self.moment (u.freed c.write-stored.new.self.up) (outcome_if c.write-stored.result) c.outcome_of.result w.item
+    (ap (λ b. b.journal.items) c.settle.ensures ∙ c.write-stored.ensures.writes.item) c.outcome_of.ensures

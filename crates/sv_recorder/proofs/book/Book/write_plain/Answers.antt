@@ -1,5 +1,6 @@
-use Rattle.std.proofs.Common.{◌∙◌}
-use Rattle.sv_recorder.proofs.Entries.{plain-holds, plain-goes, as_long}
+use Rattle.std.proofs.Common.{◌∙◌, ap}
+use Rattle.sv_recorder.specs.Writes.{outcome_if}
+use Rattle.sv_recorder.proofs.Entries.{plain-holds, plain-goes, as_long, gains_one}
 use Rattle.sv_recorder.proofs.book.Book.write_plain.Goals as goal
 
 pub returns-clause-kept : goal.returns-clause-kept
@@ -14,3 +15,9 @@ returns-clause-goes g c =
     plain-goes u.ring u.size u.limit u.sent u.freed u.way c.args.self.now c.write-stored.new.self c.settle.new.self c.args.origin c.deref.result.now c.write-stored.result
     c.write-stored.ensures.rest c.settle.ensures c.requires.ring c.write-stored.ensures.same c.write-stored.ensures.capacity c.write-stored.ensures.writes c.write-stored.ensures.moves
     (c.deref.ensures.0 ∙ c.form-block.ensures.block) (as_long c.deref.result.now _ _ c.deref.ensures.0 c.form-block.ensures.short) c.requires.telling c.requires.formed
+
+pub returns-clause-item : goal.returns-clause-item
+returns-clause-item g c =
+    let u = g.U.UpWriter in
+    gains_one c.args.self.now.journal.items c.settle.new.self.journal.items c.args.origin c.args.self.now.moment (u.freed c.write-stored.new.self.up) (outcome_if c.write-stored.result) c.outcome_of.result
+    (ap (λ b. b.journal.items) c.settle.ensures ∙ c.write-stored.ensures.writes.item) c.outcome_of.ensures

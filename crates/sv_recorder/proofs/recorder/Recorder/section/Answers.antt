@@ -12,11 +12,11 @@ returns-clause-section g c =
     let zero = placed.writer_zero g.U.UpWriter.ring g.U.UpWriter.size g.U.UpWriter.limit g.U.UpWriter.sent g.U.UpWriter.freed g.U.UpWriter.way old c.self.inside.place c.args.writer c.args.self.now c.self.view_is c.self.invariant c.requires.writer in
     placed.section_shown g.U.UpWriter.ring g.U.UpWriter.size g.U.UpWriter.limit g.U.UpWriter.sent g.U.UpWriter.freed g.U.UpWriter.way old c.take-answer.new.self c.args.writer c.self.inside.place _ c.args.self.now c.self.view_is c.self.invariant zero c.take-answer.ensures.goes
 
-pub returns-clause-told : goal.returns-clause-told
-returns-clause-told g c =
+pub returns-clause-answered : goal.returns-clause-answered
+returns-clause-answered g c =
     let old = c.self.inside.book in
     let zero = placed.writer_zero g.U.UpWriter.ring g.U.UpWriter.size g.U.UpWriter.limit g.U.UpWriter.sent g.U.UpWriter.freed g.U.UpWriter.way old c.self.inside.place c.args.writer c.args.self.now c.self.view_is c.self.invariant c.requires.writer in
-    placed.told_shown g.U.UpWriter.ring g.U.UpWriter.size g.U.UpWriter.limit g.U.UpWriter.sent g.U.UpWriter.freed g.U.UpWriter.way old c.take-answer.new.self c.args.writer c.self.inside.place c.take-answer.result c.args.self.now c.self.view_is c.self.invariant zero c.take-answer.ensures.told
+    placed.answered_shown g.U.UpWriter.ring g.U.UpWriter.size g.U.UpWriter.limit g.U.UpWriter.sent g.U.UpWriter.freed g.U.UpWriter.way old c.take-answer.new.self c.args.writer c.self.inside.place c.take-answer.result c.args.self.now c.self.view_is c.self.invariant zero c.take-answer.ensures.answered
 
 pub returns-clause-through : goal.returns-clause-through
 returns-clause-through g c =

@@ -20,7 +20,7 @@ use Rattle.sv_recorder.specs.Legal.{IsNextStep, ticks_of, answers_of, is_control
 use Rattle.sv_recorder.specs.Kept.{Keeps}
 use Rattle.sv_recorder.specs.Plain.{IsPlain}
 use Rattle.sv_recorder.specs.Clock.{clock_of, is_start_kind, reply_of}
-use Rattle.sv_recorder.specs.Formed.{IsFormed, packet_bytes}
+use Rattle.sv_recorder.specs.Formed.{IsFormed, packet_bytes, reply_bytes}
 use Rattle.sv_recorder.specs.Writes.{Writes, made, outcome_if, IsPacketHere}
 use Rattle.sv_recorder.proofs.Steps.{outcome_at-control, outcome_at-write}
 use Rattle.sv_recorder.proofs.Next.{after_refused-fresh}
@@ -109,7 +109,7 @@ no_stop kinds.ModuleCount is = refl
 no_stop kinds.Module is = absurd cc
 no_stop kinds.TraceStop is = absurd cc
 
-pub start_formed : (load : Load) (kind : Kind) → is_start_kind kind ≡ true → IsFormed load (reply_of kind) × (packet_bytes load (reply_of kind) ≡ 40)
+pub start_formed : (load : Load) (kind : Kind) → is_start_kind kind ≡ true → IsFormed load (reply_of kind) × (packet_bytes load (reply_of kind) ≡ reply_bytes)
 start_formed load kinds.TraceStart is = (tt, refl)
 start_formed load kinds.Init is = (tt, refl)
 start_formed load kinds.Line is = absurd cc

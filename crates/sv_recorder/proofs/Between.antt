@@ -18,17 +18,18 @@ use Rattle.sv_recorder.specs.Freed.{AreFreed}
 use Rattle.sv_recorder.specs.Kept.{Keeps}
 use Rattle.sv_recorder.specs.Plain.{IsPlain}
 use Rattle.sv_recorder.specs.Clock.{clock_of}
-use Rattle.sv_recorder.specs.Needs.{step_items, step_bytes, items_for, bytes_for, ticks_for}
+use Rattle.sv_recorder.specs.Needs.{start_items, stop_items, start_need, step_items, step_bytes, items_for, bytes_for, ticks_for}
 use Rattle.sv_recorder.specs.Book.{Holds, Goes}
 use Rattle.sv_recorder.specs.Section.{IsSection}
 use Rattle.sv_recorder.specs.Recording.{IsRecorder}
 use Rattle.sv_recorder.proofs.Going.{sum_latest, calls_heads, clock-goes}
 use Rattle.sv_recorder.proofs.Next.{after_refused-fresh}
+use Rattle.sv_recorder.proofs.Scripts.{one_script}
 use Rattle.sv_recorder.proofs.Sections.{ticks_at}
 
 -- there is one writer
 pub only_writer : (load : Load) (writer : ℕ) → IsPlain load → writer < length load.scripts → writer ≡ 0
-only_writer load writer plain within = omega (arith, ap length plain.scripts, within)
+only_writer load writer plain within = omega (arith, plain.writer, within)
 
 pub count_latest : (p : Item → Bool) (items : List Item) → count_by p (latest_first items) ≡ count_by p items
 count_latest p items = sum_latest (λ (i : Item). cond (p i) 1 0) [] items ∙ (let e : 0 + count_by p items ≡ count_by p items = omega arith in e)
@@ -68,10 +69,11 @@ module _ {U : Type 0} (ring : U → List (List ℕ)) (size limit : U → ℕ) (s
   pub taken : (old new : Book U) (place : ℕ) (step : Step) → Keeping old place → step_of old.load.now 0 place ≡ Some step
       → (Holds sent freed old [] → IsNextStep old.load.now (latest_first old.journal.items) (Call 0 place) → old.moment ≡ clock_of old.load.now old.journal.items → Holds sent freed new [])
       → Goes ring size limit sent freed way (Call 0 place ∷ []) (step_items step) (step_bytes step) (record old { moment = old.moment + step.advance }) new
-      → new.moment ≡ old.moment + step.advance → new.last ≤ new.moment
       → Keeping new (place + 1)
-  taken old new place step r is kept goes moment later =
+  taken old new place step r is kept goes =
       let load = old.load.now in
+      let moment : new.moment ≡ old.moment + step.advance = goes.moment in
+      let before : old.last ≤ old.moment + step.advance = omega (arith, r.later) in
       let script = script_of load 0 in
       let items = needs_at step_items script place step is in
       let bytes = needs_at step_bytes script place step is in
@@ -88,7 +90,7 @@ module _ {U : Type 0} (ring : U → List (List ℕ)) (size limit : U → ℕ) (s
         held = subst (λ (l : Load). Keeps l new.journal.items [] (sent new.up) (freed new.up) new.on new.pending new.last) goes.load (kept r.held (next_step old place step r is) r.clock);
         ring = goes.size_same ∙ r.ring;
         clock = moment ∙ clock_is old.moment step.advance (ticks_of load (Call 0 place)) (clock_of load old.journal.items) r.clock tick ∙ sym clock ∙ ap (λ (l : Load). clock_of l new.journal.items) goes.load;
-        later = later;
+        later = goes.later before;
         place_is = omega (arith, r.place_is, calls);
         within = omega (arith, place_within script place step is);
         room = omega (arith, r.room, items, longer, goes.few, goes.capacity);
@@ -112,11 +114,11 @@ module _ {U : Type 0} (ring : U → List (List ℕ)) (size limit : U → ℕ) (s
 
 -- ONE WRITER'S NEED
 
-need_sum : (steps : List Step) → items_for steps ≡ 3 * sum_by (λ (s : Step). 1) steps + 10 * sum_by (λ (s : Step). one_if (is_start_act s.act)) steps
+need_sum : (steps : List Step) → items_for steps ≡ stop_items * sum_by (λ (s : Step). 1) steps + start_items * sum_by (λ (s : Step). one_if (is_start_act s.act)) steps
 need_sum [] = refl
 need_sum (s ∷ steps) = omega (arith, need_sum steps, sum_by-cons step_items s steps, sum_by-cons (λ (t : Step). 1) s steps, sum_by-cons (λ (t : Step). one_if (is_start_act t.act)) s steps)
 
-bytes_sum : (steps : List Step) → bytes_for steps ≡ sum_by (λ (s : Step). act_bytes s.act) steps + 651 * sum_by (λ (s : Step). one_if (is_start_act s.act)) steps
+bytes_sum : (steps : List Step) → bytes_for steps ≡ sum_by (λ (s : Step). act_bytes s.act) steps + start_need * sum_by (λ (s : Step). one_if (is_start_act s.act)) steps
 bytes_sum [] = refl
 bytes_sum (s ∷ steps) = omega (arith, bytes_sum steps, sum_by-cons step_bytes s steps, sum_by-cons (λ (t : Step). act_bytes t.act) s steps, sum_by-cons (λ (t : Step). one_if (is_start_act t.act)) s steps)
 
@@ -133,29 +135,29 @@ script_is load script one = ap (λ (ss : List (List Step)). slice_index_or ss 0 
 
 pub items_needed : (load : Load) → IsPlain load → items_for (script_of load 0) ≡ need_items load
 items_needed load plain =
-    let is = script_is load plain.script plain.scripts in
-    let steps = over_one (λ (s : Step). 1) load plain.script plain.scripts in
-    let starts = over_one (λ (s : Step). one_if (is_start_act s.act)) load plain.script plain.scripts in
-    let sum = need_sum plain.script in
-    ap items_for is ∙ sum ∙ (rw (plain.lines, plain.tasks, plain.modules, plain.commands, steps, starts) (ten (sum_by (λ (s : Step). 1) plain.script) (sum_by (λ (s : Step). one_if (is_start_act s.act)) plain.script)))
+    let is = script_is load (script_of load 0) (one_script load.scripts plain.writer) in
+    let steps = over_one (λ (s : Step). 1) load (script_of load 0) (one_script load.scripts plain.writer) in
+    let starts = over_one (λ (s : Step). one_if (is_start_act s.act)) load (script_of load 0) (one_script load.scripts plain.writer) in
+    let sum = need_sum (script_of load 0) in
+    ap items_for is ∙ sum ∙ (rw (plain.lines, plain.tasks, plain.modules, plain.commands, steps, starts) (ten (sum_by (λ (s : Step). 1) (script_of load 0)) (sum_by (λ (s : Step). one_if (is_start_act s.act)) (script_of load 0))))
   where
     ten : (m n : ℕ) → 3 * m + 10 * n ≡ 3 * m + (n + 0) * 10
     ten m n = omega arith
 
 pub bytes_needed : (load : Load) → IsPlain load → bytes_for (script_of load 0) ≤ need_bytes load
 bytes_needed load plain =
-    let is = script_is load plain.script plain.scripts in
-    let steps = over_one (λ (s : Step). act_bytes s.act) load plain.script plain.scripts in
-    let starts = over_one (λ (s : Step). one_if (is_start_act s.act)) load plain.script plain.scripts in
-    let sum : bytes_for (script_of load 0) ≡ sum_by (λ (s : Step). act_bytes s.act) plain.script + 651 * sum_by (λ (s : Step). one_if (is_start_act s.act)) plain.script = ap bytes_for is ∙ bytes_sum plain.script in
+    let is = script_is load (script_of load 0) (one_script load.scripts plain.writer) in
+    let steps = over_one (λ (s : Step). act_bytes s.act) load (script_of load 0) (one_script load.scripts plain.writer) in
+    let starts = over_one (λ (s : Step). one_if (is_start_act s.act)) load (script_of load 0) (one_script load.scripts plain.writer) in
+    let sum : bytes_for (script_of load 0) ≡ sum_by (λ (s : Step). act_bytes s.act) (script_of load 0) + start_need * sum_by (λ (s : Step). one_if (is_start_act s.act)) (script_of load 0) = ap bytes_for is ∙ bytes_sum (script_of load 0) in
     rw (sum, plain.lines, plain.tasks, plain.modules, plain.commands, steps, starts) (omega arith)
 
 pub ticks_needed : (load : Load) → IsPlain load → IsWithinLimits load → ticks_for (script_of load 0) ≤ 2 ^ 60
 ticks_needed load plain limits =
-    let is = script_is load plain.script plain.scripts in
-    let steps : steps_in load ≡ sum_by (λ (s : Step). 1) plain.script = over_one (λ (s : Step). 1) load plain.script plain.scripts in
-    let all : All (λ s. s.advance ≤ 8589934592) plain.script = All-head (λ (s : List Step). All (λ t. t.advance ≤ 8589934592) s) plain.script [] (subst (All (λ (s : List Step). All (λ t. t.advance ≤ 8589934592) s)) plain.scripts limits.advances) in
-    omega (arith, ap ticks_for is, ticks_few plain.script all, steps, limits.steps)
+    let is = script_is load (script_of load 0) (one_script load.scripts plain.writer) in
+    let steps : steps_in load ≡ sum_by (λ (s : Step). 1) (script_of load 0) = over_one (λ (s : Step). 1) load (script_of load 0) (one_script load.scripts plain.writer) in
+    let all : All (λ s. s.advance ≤ 8589934592) (script_of load 0) = All-head (λ (s : List Step). All (λ t. t.advance ≤ 8589934592) s) (script_of load 0) [] (subst (All (λ (s : List Step). All (λ t. t.advance ≤ 8589934592) s)) (one_script load.scripts plain.writer) limits.advances) in
+    omega (arith, ap ticks_for is, ticks_few (script_of load 0) all, steps, limits.steps)
 
 ones : (steps : List Step) → sum_by (λ (s : Step). 1) steps ≡ length steps
 ones [] = refl
@@ -164,6 +166,6 @@ ones (s ∷ steps) = omega (arith, ones steps, sum_by-cons (λ (t : Step). 1) s 
 -- the script has no more steps than a workload may have
 pub script_short : (load : Load) → IsPlain load → IsWithinLimits load → length (script_of load 0) ≤ 1048576
 script_short load plain limits =
-    let is = ap length (script_is load plain.script plain.scripts) in
-    let steps : steps_in load ≡ sum_by (λ (s : Step). 1) plain.script = over_one (λ (s : Step). 1) load plain.script plain.scripts in
-    omega (arith, is, steps, ones plain.script, limits.steps)
+    let is = ap length (script_is load (script_of load 0) (one_script load.scripts plain.writer)) in
+    let steps : steps_in load ≡ sum_by (λ (s : Step). 1) (script_of load 0) = over_one (λ (s : Step). 1) load (script_of load 0) (one_script load.scripts plain.writer) in
+    omega (arith, is, steps, ones (script_of load 0), limits.steps)

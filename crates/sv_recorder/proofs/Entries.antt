@@ -19,10 +19,11 @@ use Rattle.sv_recorder.specs.Freed.{wrote_if, AreFreed}
 use Rattle.sv_recorder.specs.Items.{latest_first, last_moment, is_stop_reply, is_stored, is_refused, is_sync, is_written, is_after_refused_overflow, block_of}
 use Rattle.sv_recorder.specs.Legal.{is_head, origins_of}
 use Rattle.sv_recorder.specs.Kept.{Keeps}
+use Rattle.sv_recorder.specs.Plain.{IsPlain}
 use Rattle.sv_recorder.specs.Stream.{stream_of}
 use Rattle.sv_recorder.specs.Writes.{Writes, MovesBy, made, outcome_if, packet_block, is_telling, IsPacketHere}
-use Rattle.sv_recorder.specs.Formed.{IsFormed, packet_bytes, block_bytes}
-use Rattle.sv_recorder.specs.Book.{Holds, HoldsAs, Goes, head_if}
+use Rattle.sv_recorder.specs.Formed.{IsFormed, packet_bytes, block_bytes, overflow_bytes}
+use Rattle.sv_recorder.specs.Book.{Holds, HoldsAs, IsReady, Goes, head_if}
 use Rattle.sv_recorder.proofs.Steps.{latest_first-push, last_moment-stored, last_moment-other}
 use Rattle.sv_recorder.proofs.Freed.{Written, written-stream, written-freed, unwritten-stream, unwritten-freed, packet_written, refused_unwritten, freed-append}
 use Rattle.sv_recorder.proofs.Recorded.{packet-off, packet-plain, block_here, not_sync, not_overflow}
@@ -108,6 +109,15 @@ gains_two old mid new i origin moment freed outcome told first second is = recor
   origin_is = refl;
   outcome_is = sym is;
 }
+
+-- what is pending, and the moment of the last stored packet, after a write
+pub settled_pending : (stored : Bool) (n : ℕ) → (if stored then 0 else 1) ≤ n + 2
+settled_pending true n = omega arith
+settled_pending false n = omega arith
+
+pub settled_later : (stored : Bool) (last moment : ℕ) → last ≤ moment → (if stored then moment else last) ≤ moment
+settled_later true last moment later = omega arith
+settled_later false last moment later = later
 
 -- a write leaves the workload and the moment
 pub same_load : {U : Type 0} (old mid : Book U) → mid ≡ record old { journal = mid.journal; up = mid.up } → mid.load.now ≡ old.load.now
@@ -257,6 +267,8 @@ module _ {U : Type 0} (ring : U → List (List ℕ)) (size limit : U → ℕ) (s
         headed = headed_one origin old.moment (freed mid.up) (outcome_if stored);
         few = omega arith;
         short = omega (arith, one, short, bytes_behind old.load.now origin fine);
+        pending = settled_pending stored old.pending;
+        later = λ before. settled_later stored mid.last mid.moment (omega (arith, before, ap (λ (b : Book U). b.last) written, ap (λ (b : Book U). b.moment) written));
         moved = λ s.
             let m = write-moved old mid origin block stored written fits w moves s.stream (packet_written earlier origin old.moment (freed mid.up) stored telling s.ready)
             (formed ∙ sym (block_here old.load.now earlier origin old.moment (freed mid.up) old.last (outcome_if stored) telling s.last)) in (
@@ -280,9 +292,9 @@ module _ {U : Type 0} (ring : U → List (List ℕ)) (size limit : U → ℕ) (s
       → MovesBy size sent freed way old.up mid.up overflow false
       → overflow ≡ packet_block old.load.now (Overflow old.pending) old.moment old.last
       → new.journal.items ≡ mid.journal.items ++ made origin mid.moment (freed mid.up) Refused ∷ []
-      → is_telling origin ≡ true
+      → is_telling origin ≡ true → pending ≤ old.pending + 2
       → Goes ring size limit sent freed way (head_if origin) 2 (packet_bytes old.load.now origin) old (record new { pending = pending })
-  refused-goes old mid new origin overflow pending written noted fits same capacity capacity2 w moves formed item telling =
+  refused-goes old mid new origin overflow pending written noted fits same capacity capacity2 w moves formed item telling some =
       let earlier : List Item = latest_first old.journal.items in
       let o : Item = made (Overflow old.pending) old.moment (freed mid.up) Refused in
       let i : Item = made origin mid.moment (freed mid.up) Refused in
@@ -303,6 +315,8 @@ module _ {U : Type 0} (ring : U → List (List ℕ)) (size limit : U → ℕ) (s
         headed = headed_at origin old.pending old.moment mid.moment (freed mid.up) (freed mid.up) Refused Refused (same_moment old mid written);
         few = omega arith;
         short = omega (arith, ap length w.grown, length-append {A = ℕ} (sent old.up) [], ap (λ (u : U). length (sent u)) up);
+        pending = some;
+        later = λ before. omega (arith, before, ap (λ (b : Book U). b.last) noted, ap (λ (b : Book U). b.last) written, ap (λ (b : Book U). b.moment) noted, ap (λ (b : Book U). b.moment) written);
         moved = λ s.
             let m = write-moved old mid (Overflow old.pending) overflow false written fits w moves s.stream refl (formed ∙ ap (packet_block old.load.now (Overflow old.pending) old.moment) s.last) in
             let alone = unwritten-freed old.load.now (latest_first mid.journal.items) i (way mid.up) (freed mid.up)
@@ -332,9 +346,9 @@ module _ {U : Type 0} (ring : U → List (List ℕ)) (size limit : U → ℕ) (s
       → Writes (size first.up) first.journal.items second.journal.items (sent first.up) (sent second.up) (freed first.up) (freed second.up) origin first.moment block stored
       → MovesBy size sent freed way old.up first.up overflow true → MovesBy size sent freed way first.up second.up block stored
       → overflow ≡ packet_block old.load.now (Overflow old.pending) old.moment old.last → block ≡ packet_block old.load.now origin old.moment old.moment
-      → length overflow ≤ 11 → length block ≤ block_bytes old.load.now origin → is_telling origin ≡ true → IsFormed old.load.now origin
+      → length overflow ≤ 11 → length block ≤ block_bytes old.load.now origin → is_telling origin ≡ true → IsFormed old.load.now origin → pending ≤ old.pending + 2
       → Goes ring size limit sent freed way (head_if origin) 2 (packet_bytes old.load.now origin) old new
-  behind-goes old first second new origin overflow block stored pending written again settled fits same same2 capacity capacity2 v w moves moves2 formed formed2 short short2 telling fine =
+  behind-goes old first second new origin overflow block stored pending written again settled fits same same2 capacity capacity2 v w moves moves2 formed formed2 short short2 telling fine some =
       let earlier : List Item = latest_first old.journal.items in
       let o : Item = made (Overflow old.pending) old.moment (freed first.up) Stored in
       let i : Item = made origin first.moment (freed second.up) (outcome_if stored) in
@@ -357,6 +371,8 @@ module _ {U : Type 0} (ring : U → List (List ℕ)) (size limit : U → ℕ) (s
         headed = headed_at origin old.pending old.moment first.moment (freed first.up) (freed second.up) Stored (outcome_if stored) first_moment;
         few = omega arith;
         short = omega (arith, one, two, short, short2, bytes_behind old.load.now origin fine);
+        pending = some;
+        later = λ before. settled_later stored second.moment second.moment (omega arith);
         moved = λ s.
             let m = write-moved old first (Overflow old.pending) overflow true written fits v moves s.stream refl (formed ∙ ap (packet_block old.load.now (Overflow old.pending) old.moment) s.last) in
             let block_is : block ≡ packet_block first.load.now origin first.moment first.moment = formed2 ∙ sym (ap (λ (l : Load). packet_block l origin first.moment first.moment) first_load ∙ ap (λ (n : ℕ). packet_block old.load.now origin n n) first_moment) in
@@ -379,11 +395,22 @@ module _ {U : Type 0} (ring : U → List (List ℕ)) (size limit : U → ℕ) (s
       either true m = refl
       either false m = refl
 
--- what is left of the ring's limit behind a stored overflow
-pub room_behind : (load : Load) (origin : Origin) (sent now overflow block : List ℕ) (limit : ℕ) → IsFormed load origin → now ≡ sent ++ overflow → length overflow ≤ 11 → length block ≤ block_bytes load origin
-    → length sent + packet_bytes load origin ≤ limit → length now + length block ≤ limit
-room_behind load origin sent now overflow block limit formed grown short short2 within =
-    omega (arith, ap length grown, length-append sent overflow, short, short2, within, bytes_behind load origin formed)
+  -- a stored overflow leaves the room of its packet
+  pub ready_after : (old mid : Book U) (origin : Origin) (overflow block : List ℕ)
+      → IsReady size limit sent 2 (packet_bytes old.load.now origin) old → IsFormed old.load.now origin
+      → mid ≡ record old { journal = mid.journal; up = mid.up }
+      → (ring mid.up ≡ ring old.up) × (size mid.up ≡ size old.up) × (limit mid.up ≡ limit old.up) → vec_capacity mid.journal ≡ vec_capacity old.journal
+      → Writes (size old.up) old.journal.items mid.journal.items (sent old.up) (sent mid.up) (freed old.up) (freed mid.up) (Overflow old.pending) old.moment overflow true
+      → length overflow ≤ overflow_bytes → length block ≤ block_bytes old.load.now origin
+      → IsReady size limit sent 1 (length block) mid
+  ready_after old mid origin overflow block r formed written same capacity w short short2 = record {
+    plain = subst IsPlain (sym (same_load old mid written)) r.plain;
+    ring = same.1 ∙ r.ring ∙ sym (ap (λ (l : Load). l.ring) (same_load old mid written));
+    later = omega (arith, r.later, ap (λ (b : Book U). b.last) written, ap (λ (b : Book U). b.moment) written);
+    room = omega (arith, r.room, capacity, ap length w.item, length-append {A = Item});
+    within = omega (arith, r.within, ap length w.grown, length-append (sent old.up) overflow, short, short2, bytes_behind old.load.now origin formed, same.2);
+    few = omega (arith, r.few, ap (λ (b : Book U). b.pending) written);
+  }
 
 pub and-not : (on : Bool) (b : Bool) → on ≡ true → (on && b) ≡ b
 and-not on b is = ap (λ (k : Bool). k && b) is

@@ -27,10 +27,10 @@ short_short n = by (nat_lt n 128) n
 bare_short : (id delta : ℕ) → length (id ∷ number_spelling delta) ≤ 6
 bare_short id delta = omega (arith, number_short delta)
 
-one_short : (id n delta : ℕ) → length (id ∷ (number_spelling n ++ []) ++ number_spelling delta) ≤ 29
+one_short : (id n delta : ℕ) → length (id ∷ (number_spelling n ++ []) ++ number_spelling delta) ≤ 28
 one_short id n delta = omega (arith, number_short n, number_short delta, length-append (number_spelling n ++ []) (number_spelling delta), length-append (number_spelling n) [])
 
-counted_short : (payload delta : List ℕ) → length payload ≤ 20 → length delta ≤ 5 → (id : ℕ) → length ((id ∷ short_spelling (length payload)) ++ (payload ++ delta)) ≤ 29
+counted_short : (payload delta : List ℕ) → length payload ≤ 20 → length delta ≤ 5 → (id : ℕ) → length ((id ∷ short_spelling (length payload)) ++ (payload ++ delta)) ≤ 28
 counted_short payload delta p d id = omega (arith, p, d, short_short (length payload), length-append (id ∷ short_spelling (length payload)) (payload ++ delta), length-append payload delta)
 
 pub reply_short : (load : Load) (kind : Kind) (index moment last : ℕ) → IsPlain load → IsPlainKind kind → length (packet_block load (Reply kind index) moment last) ≤ block_bytes load (Reply kind index)

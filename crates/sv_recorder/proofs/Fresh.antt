@@ -1,8 +1,6 @@
 -- A recorder that has recorded nothing.
-use Rattle.std.proofs.Common.{◌≡◌, ℕ, ◌<◌, ◌≤◌, ◌^◌, length, false, List, [], ◌∷◌, refl, sym, subst, arith}
-use Rattle.std.specs.Prelude.{slice_index_or}
+use Rattle.std.proofs.Common.{◌≡◌, ℕ, ◌<◌, ◌≤◌, ◌^◌, length, false, List, [], refl, sym, subst, arith}
 use Rattle.std.proofs.lemmas.List.{nil_from_length}
-use Rattle.sv_workload.specs.declared.load.Step.{Step}
 use Rattle.sv_workload.specs.Grammar.{SaysNothingOfLater}
 use Rattle.sv_workload.specs.Load.{Load, script_of}
 use Rattle.sv_workload.specs.Need.{IsWithinLimits, need_items, need_bytes}
@@ -52,12 +50,6 @@ fresh load items sent freed size limit capacity plain limits items_is sent_is fr
     (subst (λ (s : List ℕ). IsRecorder load [] s freed size limit false 0 0 0 0 capacity) (sym sent_is)
     (subst (λ (n : ℕ). IsRecorder load [] [] n size limit false 0 0 0 0 capacity) (sym freed_is) (nothing load size limit capacity plain limits ring bytes few room)))
 
--- one script is the first one
-pub one_script : (scripts : List (List Step)) → length scripts ≡ 1 → scripts ≡ slice_index_or scripts 0 [] ∷ []
-one_script [] h = absurd (omega arith)
-one_script (s ∷ []) h = refl
-one_script (s ∷ t ∷ ss) h = absurd (omega (arith, h))
-
 -- a workload of one writer is plain, where it has no task and nothing that only words of later would say
 pub plain_of : (load : Load) → SaysNothingOfLater load → length load.scripts ≡ 1 → length load.tasks ≡ 0 → IsPlain load
 plain_of load later one none = record {
@@ -66,6 +58,5 @@ plain_of load later one none = record {
   tasks = nil_from_length load.tasks none;
   modules = later.modules;
   commands = later.commands;
-  script = script_of load 0;
-  scripts = one_script load.scripts one;
+  writer = one;
 }

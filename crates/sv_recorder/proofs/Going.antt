@@ -64,8 +64,8 @@ sum_latest f items (i ∷ more) =
     ap (λ (k : List Item). sum_by f (latest_first k)) regrouped ∙ omega (arith, first, others, here)
 
 module _ {U : Type 0} (ring : U → List (List ℕ)) (size limit : U → ℕ) (sent : U → List ℕ) (freed : U → ℕ) (way : U → Way) where
-  pub goes-none : (old new : Book U) → new.load.now ≡ old.load.now → new.moment ≡ old.moment → new.up ≡ old.up → new.journal ≡ old.journal → new.last ≡ old.last → Goes ring size limit sent freed way [] 0 0 old new
-  goes-none old new load moment up items last = record {
+  pub goes-none : (old new : Book U) → new.load.now ≡ old.load.now → new.moment ≡ old.moment → new.up ≡ old.up → new.journal ≡ old.journal → new.last ≡ old.last → new.pending ≡ old.pending → Goes ring size limit sent freed way [] 0 0 old new
+  goes-none old new load moment up items last pending = record {
     load = load;
     moment = moment;
     ring_same = ap ring up;
@@ -77,6 +77,8 @@ module _ {U : Type 0} (ring : U → List (List ℕ)) (size limit : U → ℕ) (s
     headed = refl;
     few = omega arith;
     short = omega (arith, ap (λ u. length (sent u)) up);
+    pending = omega (arith, pending);
+    later = λ before. omega (arith, before, last, moment);
     moved = λ s. (
       record {
         stream = ap sent up ∙ s.stream ∙ sym (ap (λ (l : Load). stream_of l new.journal.items) load ∙ ap (λ v. stream_of old.load.now v.items) items);
@@ -101,6 +103,8 @@ module _ {U : Type 0} (ring : U → List (List ℕ)) (size limit : U → ℕ) (s
     headed = heads_append p.more q.more ∙ ap (λ (os : List Origin). os ++ filter is_head (origins_of q.more)) p.headed ∙ ap (λ (os : List Origin). h ++ os) q.headed;
     few = omega (arith, p.few, q.few, length-append p.more q.more);
     short = omega (arith, p.short, q.short);
+    pending = omega (arith, p.pending, q.pending);
+    later = λ before. q.later (p.later before);
     moved = λ s. let one = p.moved s in let two = q.moved one.0 in
         let behind : AreFreed old.load.now (latest_first (old.journal.items ++ p.more)) q.more (way mid.up) (freed mid.up) (way new.up) (freed new.up) =
         subst (λ (is : List Item). AreFreed old.load.now (latest_first is) q.more (way mid.up) (freed mid.up) (way new.up) (freed new.up)) p.added
@@ -114,10 +118,10 @@ module _ {U : Type 0} (ring : U → List (List ℕ)) (size limit : U → ℕ) (s
         ∙ filter-append is_head (origins_of xs) (origins_of ys)
 
   -- a later state that is told otherwise
-  pub goes-to : (old mid new : Book U) (h : List Origin) (m a : ℕ) → Goes ring size limit sent freed way h m a old mid → new.load.now ≡ mid.load.now → new.moment ≡ mid.moment → new.up ≡ mid.up → new.journal ≡ mid.journal → new.last ≡ mid.last
+  pub goes-to : (old mid new : Book U) (h : List Origin) (m a : ℕ) → Goes ring size limit sent freed way h m a old mid → new.load.now ≡ mid.load.now → new.moment ≡ mid.moment → new.up ≡ mid.up → new.journal ≡ mid.journal → new.last ≡ mid.last → new.pending ≡ mid.pending
       → Goes ring size limit sent freed way h m a old new
-  goes-to old mid new h m a p load moment up items last =
-      let whole = goes-then old mid new h [] m 0 a 0 p (goes-none mid new load moment up items last) in
+  goes-to old mid new h m a p load moment up items last pending =
+      let whole = goes-then old mid new h [] m 0 a 0 p (goes-none mid new load moment up items last pending) in
       let heads : h ++ [] ≡ h = append-nil h in
       let count : m + 0 ≡ m = omega arith in
       let bytes : a + 0 ≡ a = omega arith in
@@ -152,6 +156,8 @@ module _ {U : Type 0} (ring : U → List (List ℕ)) (size limit : U → ℕ) (s
         headed = headed;
         few = omega arith;
         short = omega (arith, ap (λ u. length (sent u)) up);
+        pending = omega (arith, ap (λ (b : Book U). b.pending) changed);
+        later = λ before. omega (arith, before, ap (λ (b : Book U). b.last) changed, ap (λ (b : Book U). b.moment) changed);
         moved = λ s. (
           record {
             stream = ap sent up ∙ unwritten-stream old.load.now old.journal.items (sent old.up) i s.stream not_stored
@@ -178,5 +184,7 @@ module _ {U : Type 0} (ring : U → List (List ℕ)) (size limit : U → ℕ) (s
     headed = p.headed;
     few = omega (arith, p.few, few);
     short = omega (arith, p.short, short);
+    pending = omega (arith, p.pending, few);
+    later = p.later;
     moved = p.moved;
   }

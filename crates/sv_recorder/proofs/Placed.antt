@@ -13,10 +13,10 @@ use Rattle.sv_recorder.specs.Items.{latest_first, is_call_of}
 use Rattle.sv_recorder.specs.Legal.{IsNextStep}
 use Rattle.sv_recorder.specs.Clock.{clock_of}
 use Rattle.sv_recorder.specs.Needs.{step_items, step_bytes}
-use Rattle.sv_recorder.specs.Book.{Holds, Goes}
+use Rattle.sv_recorder.specs.Book.{Holds, Goes, IsReady}
 use Rattle.sv_recorder.specs.Section.{IsSection}
 use Rattle.sv_recorder.specs.Recording.{Recording, IsRecorder}
-use Rattle.sv_recorder.proofs.Between.{only_writer, taken, section_of, script_short}
+use Rattle.sv_recorder.proofs.Between.{only_writer, needs_at, pending_few, taken, section_of, script_short}
 
 got : (steps : List Step) (place : ℕ) (d : Step) → place < length steps → slice_get steps place ≡ Some (slice_index_or steps place d)
 got [] place d within = absurd (omega (arith, within))
@@ -45,12 +45,26 @@ module _ {U : Type 0} (ring : U → List (List ℕ)) (size limit : U → ℕ) (s
   writer_zero old place writer view is r within = only_writer old.load.now writer r.plain (subst (λ (v : Recording). writer < length v.load.scripts) (sym is) within)
 
   pub after : (old new : Book U) (writer place : ℕ) (steps : List Step) (step : Step) → Keeping old place → writer ≡ 0 → steps ≡ script_of old.load.now writer → (place ≡ length steps → ⊥) → step ≡ slice_index_or steps place step
-      → Kept old new writer place → Gone old new writer place step
-      → new.moment ≡ old.moment + step.advance → new.last ≤ new.moment
-      → Keeping new (place + 1)
-  after old new writer place steps step r only is not at kept goes moment later =
+      → Kept old new writer place → Gone old new writer place step → Keeping new (place + 1)
+  after old new writer place steps step r only is not at kept goes =
       let of = at_place steps (script_of old.load.now 0) place step (subst (λ (w : ℕ). steps ≡ script_of old.load.now w) only is) r.within not at in
-      taken ring size limit sent freed way old new place step r of (subst (λ (w : ℕ). Kept old new w place) only kept) (subst (λ (w : ℕ). Gone old new w place step) only goes) moment later
+      taken ring size limit sent freed way old new place step r of (subst (λ (w : ℕ). Kept old new w place) only kept) (subst (λ (w : ℕ). Gone old new w place step) only goes)
+
+  pub ready_at : (old : Book U) (writer place : ℕ) (steps : List Step) (step : Step) → Keeping old place → writer ≡ 0 → steps ≡ script_of old.load.now writer → (place ≡ length steps → ⊥) → step ≡ slice_index_or steps place step
+      → IsReady size limit sent (step_items step) (step_bytes step) old
+  ready_at old writer place steps step r only is not at =
+      let script = script_of old.load.now 0 in
+      let of = at_place steps script place step (subst (λ (w : ℕ). steps ≡ script_of old.load.now w) only is) r.within not at in
+      let items = needs_at step_items script place step of in
+      let bytes = needs_at step_bytes script place step of in
+      record {
+        plain = r.plain;
+        ring = r.ring;
+        later = r.later;
+        room = omega (arith, r.room, items);
+        within = omega (arith, r.bytes, bytes);
+        few = omega (arith, r.held.pending_is, pending_few old.journal.items, r.few, items);
+      }
 
   abbrev SectionOf : Recording → Book U → ℕ → Type 0
   SectionOf view new writer = (s : IsSection view.items new.journal.items writer None) × AreFreed view.load (latest_first view.items) s.more view.way view.freed (way new.up) (freed new.up)

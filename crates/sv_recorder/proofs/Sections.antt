@@ -20,6 +20,7 @@ use Rattle.sv_recorder.specs.Legal.{IsNextStep, ticks_of, is_control}
 use Rattle.sv_recorder.specs.Kept.{Keeps}
 use Rattle.sv_recorder.specs.Plain.{IsPlain}
 use Rattle.sv_recorder.specs.Clock.{clock_of, is_start_kind, reply_of}
+use Rattle.sv_recorder.specs.Formed.{reply_bytes}
 use Rattle.sv_recorder.specs.Replies.{AreReplied}
 use Rattle.sv_recorder.specs.Writes.{Writes, MovesBy, made, outcome_if, IsPacketHere}
 use Rattle.sv_recorder.specs.Book.{Holds, HoldsAs, Goes}
@@ -50,6 +51,8 @@ module _ {U : Type 0} (ring : U → List (List ℕ)) (size limit : U → ℕ) (s
         headed = refl;
         few = omega arith;
         short = stored_length (sent old.up) (sent new.up) (replicate 10 0) stored w.grown;
+        pending = omega (arith, ap (λ (b : Book U). b.pending) written);
+        later = λ before. omega (arith, before, ap (λ (b : Book U). b.last) written, ap (λ (b : Book U). b.moment) written);
         moved = λ s. let m = write-moved ring size limit sent freed way old new Sync (replicate 10 0) stored written fits w moves s.stream refl refl in (
           record {
             stream = m.0;
@@ -84,26 +87,24 @@ module _ {U : Type 0} (ring : U → List (List ℕ)) (size limit : U → ℕ) (s
   pub replied-more : (kinds : List Kind) (done : ℕ) (kind : Kind) (old mid new : Book U)
       → AreReplied ring size limit sent freed way kinds done old mid → done < length kinds → drop done kinds ≡ kind ∷ drop (done + 1) kinds → is_start_kind kind ≡ true
       → ((owed rest : List Origin) → Holds sent freed mid owed → IsPacketHere mid.load.now mid.journal.items owed (Reply kind 0) mid.moment rest → HoldsAs sent freed (mid.on && not (is_stop_reply (Reply kind 0))) new rest)
-      → Goes ring size limit sent freed way [] 2 40 mid new → new.on ≡ mid.on → new.last ≤ new.moment → new.pending ≤ mid.pending + 1
+      → Goes ring size limit sent freed way [] 2 reply_bytes mid new → new.on ≡ mid.on
       → AreReplied ring size limit sent freed way kinds (done + 1) old new
-  replied-more kinds done kind old mid new before within next start kept goes on later pending = record {
+  replied-more kinds done kind old mid new before within next start kept goes on = record {
     kept = λ rest k clock.
         let so_far : Holds sent freed mid (map reply_of (kind ∷ drop (done + 1) kinds) ++ rest) = subst (λ (ks : List Kind). Holds sent freed mid (map reply_of ks ++ rest)) next (before.kept rest k clock) in
         let clocked : mid.moment ≡ clock_of mid.load.now mid.journal.items =
-        before.goes.moment ∙ clock ∙ sym (clock-goes ring size limit sent freed way old mid [] (2 * done) (40 * done) before.goes ∙ (let e : clock_of old.load.now old.journal.items + 0 ≡ clock_of old.load.now old.journal.items = omega arith in e)) in
+        before.goes.moment ∙ clock ∙ sym (clock-goes ring size limit sent freed way old mid [] (2 * done) (reply_bytes * done) before.goes ∙ (let e : clock_of old.load.now old.journal.items + 0 ≡ clock_of old.load.now old.journal.items = omega arith in e)) in
         let here = reply_here mid.load.now mid.journal.items kind mid.moment (map reply_of (drop (done + 1) kinds) ++ rest) clocked in
         let told = kept (reply_of kind ∷ (map reply_of (drop (done + 1) kinds) ++ rest)) (map reply_of (drop (done + 1) kinds) ++ rest) so_far here in
         let still_on : (mid.on && not (is_stop_reply (Reply kind 0))) ≡ new.on =
         ap (λ (b : Bool). b && not (is_stop_reply (Reply kind 0))) before.on ∙ ap not (no_stop kind start) ∙ sym (on ∙ before.on) in
         subst (λ (b : Bool). HoldsAs sent freed b new (map reply_of (drop (done + 1) kinds) ++ rest)) still_on told;
     goes =
-        let all = goes-then ring size limit sent freed way old mid new [] [] (2 * done) 2 (40 * done) 40 before.goes goes in
+        let all = goes-then ring size limit sent freed way old mid new [] [] (2 * done) 2 (reply_bytes * done) reply_bytes before.goes goes in
         let two : 2 * done + 2 ≡ 2 * (done + 1) = omega arith in
-        let forty : 40 * done + 40 ≡ 40 * (done + 1) = omega arith in
-        rw (two, forty) at all;
+        let bytes : reply_bytes * done + reply_bytes ≡ reply_bytes * (done + 1) = omega arith in
+        rw (two, bytes) at all;
     on = on ∙ before.on;
-    later = later;
-    pending = omega (arith, pending, before.pending);
   }
 
   -- a start

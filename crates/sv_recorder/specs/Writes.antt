@@ -7,6 +7,7 @@ use Rattle.sv_recorder.specs.declared.journal.Origin.{Origin}
 use Rattle.sv_recorder.specs.declared.journal.Outcome.{Outcome}
 use Rattle.sv_recorder.specs.declared.journal.Outcome.TheVariants as outcomes
 use Rattle.sv_recorder.specs.declared.journal.Origin.TheVariants.{Call, Reply}
+use Rattle.sv_recorder.specs.Formed.{IsFormed}
 use Rattle.sv_recorder.specs.Items.{event_at, latest_first}
 use Rattle.sv_recorder.specs.Legal.{is_control, IsNextStep, ticks_of}
 use Rattle.sv_recorder.specs.Open.{IsDue}
@@ -51,3 +52,8 @@ pub record IsPacketHere (load : Load) (items : List Item) (owed : List Origin) (
   pub due : IsDue load owed origin rest
   pub step : IsNextStep load (latest_first items) origin
   pub ticks : moment ≡ ticks_of load origin + sum_by (λ i. ticks_of load i.origin) (latest_first items)
+
+-- a call or a reply whose packet can be formed
+pub record HasPacket (load : Load) (origin : Origin) : Type 0 where
+  pub telling : is_telling origin ≡ true
+  pub formed : IsFormed load origin

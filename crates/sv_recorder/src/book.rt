@@ -52,7 +52,7 @@ pub fn outcome_of(stored: bool) -> Outcome
 }
 
 impl<'w, U: UpWriter + Drop> Book<'w, U> {
-    ghost use Rattle.sv_recorder.specs.Book.{Goes};
+    ghost use Rattle.sv_recorder.specs.Book.{IsReady, Stays};
 
     /// One item more, of the moment and with what the ring knows to be freed.
     pub fn note(&mut self, origin: Origin, outcome: Outcome)
@@ -74,17 +74,12 @@ impl<'w, U: UpWriter + Drop> Book<'w, U> {
 
     /// Writes a block, notes what became of it, and says whether it is stored.
     pub fn write(&mut self, origin: Origin, block: &[u8]) -> bool
-        requires room { length self.old.journal.items < vec_capacity self.old.journal }
         requires some { 0 < length block.now }
-        requires within { length (U.sent self.old.up) + length block.now ≤ U.limit self.old.up }
+        requires ready { IsReady U.size U.limit U.sent 1 (length block.now) self.old }
         ensures writes { Writes (U.size self.old.up) self.old.journal.items self.new.journal.items (U.sent
             self.old.up) (U.sent self.new.up) (U.freed self.old.up) (U.freed self.new.up)
             origin self.old.moment block.now result }
-        ensures rest { self.new ≡ record self.old { journal = self.new.journal; up = self.new.up } }
-        ensures same { (U.ring self.new.up ≡ U.ring self.old.up)
-            × (U.size self.new.up ≡ U.size self.old.up)
-            × (U.limit self.new.up ≡ U.limit self.old.up) }
-        ensures capacity { vec_capacity self.new.journal ≡ vec_capacity self.old.journal }
+        ensures stays { Stays U.ring U.size U.limit self.old self.new }
         ensures moves { MovesBy U.size U.sent U.freed U.way self.old.up self.new.up block.now result }
     {
         let stored = stores(&mut self.up, block);

@@ -10,11 +10,10 @@
 
 mod answer;
 mod book;
-mod forming;
-mod groups;
 mod journal;
-mod packets;
+mod packet;
 mod recorder;
+mod section;
 
 pub use answer::Answer;
 pub use journal::{Item, Journal, Kind, Origin, Outcome};

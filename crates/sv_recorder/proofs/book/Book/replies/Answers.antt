@@ -26,4 +26,4 @@ loop-kind-preserved g c =
     let next : drop k kinds ≡ kind ∷ drop (k + 1) kinds = rw add-one (drop-cons kinds k TraceStart c.loop-kind-test.true) in
     let formed = start_formed c.loop-kind.self.load.now kind start in
     replied-more u.ring u.size u.limit u.sent u.freed u.way kinds k kind c.args.self.now c.loop-kind.self c.packet.new.self c.loop-kind.invariant c.loop-kind-test.true next start
-    c.packet.ensures.kept (rw formed.1 at c.packet.ensures.goes) c.packet.ensures.on c.packet.ensures.later c.packet.ensures.pending
+    c.packet.ensures.kept (rw formed.1 at c.packet.ensures.records.goes) c.packet.ensures.records.on

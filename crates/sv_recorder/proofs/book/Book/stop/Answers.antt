@@ -19,5 +19,5 @@ returns-clause-goes g c =
     let u = g.U.UpWriter in
     let old = c.args.self.now in
     let noted = goes-note u.ring u.size u.limit u.sent u.freed u.way old c.note.new.self (Call c.args.writer c.args.step) Handled c.note.ensures.rest c.note.ensures.capacity c.note.ensures.item (headed_one (Call c.args.writer c.args.step) old.moment (u.freed old.up) Handled) refl refl refl in
-    let two = goes-then u.ring u.size u.limit u.sent u.freed u.way old c.note.new.self c.packet.new.self (Call c.args.writer c.args.step ∷ []) [] 1 2 0 17 noted c.packet.ensures.goes in
-    goes-to u.ring u.size u.limit u.sent u.freed u.way old c.packet.new.self (record c.packet.new.self { on = false }) (Call c.args.writer c.args.step ∷ []) 3 17 two refl refl refl refl refl
+    let two = goes-then u.ring u.size u.limit u.sent u.freed u.way old c.note.new.self c.packet.new.self (Call c.args.writer c.args.step ∷ []) [] 1 2 0 17 noted c.packet.ensures.records.goes in
+    goes-to u.ring u.size u.limit u.sent u.freed u.way old c.packet.new.self (record c.packet.new.self { on = false }) (Call c.args.writer c.args.step ∷ []) 3 17 two refl refl refl refl refl refl

@@ -9,9 +9,9 @@ use Rattle.sv_workload.specs.Load.{Load, act_of, step_of}
 use Rattle.sv_workload.specs.Need.{act_bytes, is_start_act, one_if}
 use Rattle.sv_recorder.specs.declared.journal.Origin.TheVariants.{Call}
 use Rattle.sv_recorder.specs.Clock.{clock_of}
-use Rattle.sv_recorder.specs.Formed.{packet_bytes}
+use Rattle.sv_recorder.specs.Formed.{packet_bytes, stop_bytes}
 use Rattle.sv_recorder.specs.Legal.{ticks_of}
-use Rattle.sv_recorder.specs.Needs.{step_items, step_bytes}
+use Rattle.sv_recorder.specs.Needs.{start_items, start_bytes, stop_items, step_items, step_bytes}
 use Rattle.sv_recorder.proofs.Answering.{event_owes, handles_start}
 use Rattle.sv_recorder.proofs.Going.{goes-less}
 use Rattle.sv_recorder.proofs.Sections.{ticks_at, act_at}
@@ -29,12 +29,12 @@ event_within step event n is same =
     let bytes : act_bytes step.act ≡ act_bytes (acts.Event event) = ap act_bytes is in
     (omega arith, omega (arith, bytes, same))
 
-start_within : (step : Step) → step.act ≡ acts.Start → (10 ≤ step_items step) × (170 ≤ step_bytes step)
+start_within : (step : Step) → step.act ≡ acts.Start → (start_items ≤ step_items step) × (start_bytes ≤ step_bytes step)
 start_within step is =
     let one : one_if (is_start_act step.act) ≡ 1 = ap (λ a. one_if (is_start_act a)) is in
     (omega (arith, one), omega (arith, one))
 
-stop_within : (step : Step) → step.act ≡ acts.Stop → (3 ≤ step_items step) × (17 ≤ step_bytes step)
+stop_within : (step : Step) → step.act ≡ acts.Stop → (stop_items ≤ step_items step) × (stop_bytes ≤ step_bytes step)
 stop_within step is =
     let bytes : act_bytes step.act ≡ 17 = ap act_bytes is in
     (omega arith, omega (arith, bytes))
@@ -69,7 +69,7 @@ pub returns-in-Start-clause-goes : goal.returns-in-Start-clause-goes
 returns-in-Start-clause-goes g c =
     let u = g.U.UpWriter in
     let within = start_within c.args.step.now c.in-Start.is in
-    goes-less u.ring u.size u.limit u.sent u.freed u.way _ c.start.new.self (Call c.args.writer c.args.place ∷ []) 10 (step_items c.args.step.now) 170 (step_bytes c.args.step.now) c.start.ensures.goes within.0 within.1
+    goes-less u.ring u.size u.limit u.sent u.freed u.way _ c.start.new.self (Call c.args.writer c.args.place ∷ []) start_items (step_items c.args.step.now) start_bytes (step_bytes c.args.step.now) c.start.ensures.goes within.0 within.1
 
 pub returns-in-Start-clause-answered : goal.returns-in-Start-clause-answered
 returns-in-Start-clause-answered g c = inl (handles_start c.args.self.now.load.now c.args.writer c.args.place (act_at c.args.self.now.load.now c.args.writer c.args.place c.args.step.now acts.Start c.requires.step c.in-Start.is), refl)

@@ -7,17 +7,17 @@ pub returns-clause-kept : goal.returns-clause-kept
 returns-clause-kept g c =
     let u = g.U.UpWriter in
     plain-holds u.ring u.size u.limit u.sent u.freed u.way c.args.self.now c.write-stored.new.self c.settle.new.self c.args.origin c.deref.result.now c.write-stored.result
-    c.write-stored.ensures.rest c.settle.ensures c.requires.ring c.requires.on c.requires.none c.write-stored.ensures.writes (c.deref.ensures.0 ∙ c.form-block.ensures.block)
+    c.write-stored.ensures.stays.rest c.settle.ensures c.requires.ready.ring c.requires.on c.requires.none c.write-stored.ensures.writes (c.deref.ensures.0 ∙ c.form-block.ensures.block)
 
-pub returns-clause-goes : goal.returns-clause-goes
-returns-clause-goes g c =
+pub returns-clause-records : goal.returns-clause-records
+returns-clause-records g c =
     let u = g.U.UpWriter in
-    plain-goes u.ring u.size u.limit u.sent u.freed u.way c.args.self.now c.write-stored.new.self c.settle.new.self c.args.origin c.deref.result.now c.write-stored.result
-    c.write-stored.ensures.rest c.settle.ensures c.requires.ring c.write-stored.ensures.same c.write-stored.ensures.capacity c.write-stored.ensures.writes c.write-stored.ensures.moves
-    (c.deref.ensures.0 ∙ c.form-block.ensures.block) (as_long c.deref.result.now _ _ c.deref.ensures.0 c.form-block.ensures.short) c.requires.telling c.requires.formed
-
-pub returns-clause-item : goal.returns-clause-item
-returns-clause-item g c =
-    let u = g.U.UpWriter in
-    gains_one c.args.self.now.journal.items c.settle.new.self.journal.items c.args.origin c.args.self.now.moment (u.freed c.write-stored.new.self.up) (outcome_if c.write-stored.result) c.outcome_of.result
-    (ap (λ b. b.journal.items) c.settle.ensures ∙ c.write-stored.ensures.writes.item) c.outcome_of.ensures
+    let w = c.write-stored.ensures in
+    record {
+      goes = plain-goes u.ring u.size u.limit u.sent u.freed u.way c.args.self.now c.write-stored.new.self c.settle.new.self c.args.origin c.deref.result.now c.write-stored.result
+          w.stays.rest c.settle.ensures c.requires.ready.ring w.stays.same w.stays.capacity w.writes w.moves
+          (c.deref.ensures.0 ∙ c.form-block.ensures.block) (as_long c.deref.result.now _ _ c.deref.ensures.0 c.form-block.ensures.short) c.requires.packet.telling c.requires.packet.formed;
+      on = ap (λ b. b.on) c.settle.ensures ∙ ap (λ b. b.on) w.stays.rest;
+      item = gains_one c.args.self.now.journal.items c.settle.new.self.journal.items c.args.origin c.args.self.now.moment (u.freed c.write-stored.new.self.up) (outcome_if c.write-stored.result) c.outcome_of.result
+          (ap (λ b. b.journal.items) c.settle.ensures ∙ w.writes.item) c.outcome_of.ensures;
+    }

@@ -1,10 +1,12 @@
-use Rattle.std.proofs.Common.{◌≡◌, arith, true, false}
-use Rattle.sv_recorder.proofs.Between.{pending_few}
+use Rattle.std.proofs.Common.{◌≡◌, true, false}
 use Rattle.sv_recorder.proofs.Placed as placed
 use Rattle.sv_recorder.proofs.recorder.Recorder.section.Goals as goal
 
-pub take-answer-requires-clause-few : goal.take-answer-requires-clause-few
-take-answer-requires-clause-few g c = omega (arith, c.self.invariant.held.pending_is, pending_few c.self.inside.book.journal.items, c.self.invariant.few)
+pub take-answer-requires-clause-ready : goal.take-answer-requires-clause-ready
+take-answer-requires-clause-ready g c =
+    let old = c.self.inside.book in
+    let zero = placed.writer_zero g.U.UpWriter.ring g.U.UpWriter.size g.U.UpWriter.limit g.U.UpWriter.sent g.U.UpWriter.freed g.U.UpWriter.way old c.self.inside.place c.args.writer c.args.self.now c.self.view_is c.self.invariant c.requires.writer in
+    placed.ready_at g.U.UpWriter.ring g.U.UpWriter.size g.U.UpWriter.limit g.U.UpWriter.sent g.U.UpWriter.freed g.U.UpWriter.way old c.args.writer c.self.inside.place c.steps-steps.result.now c.index-steps-place.result c.self.invariant zero c.steps-steps.ensures c.if-place-steps.false c.index-steps-place.is
 
 pub returns-clause-section : goal.returns-clause-section
 returns-clause-section g c =
@@ -28,4 +30,4 @@ pub invariant_of-self : goal.invariant_of-self
 invariant_of-self g c =
     let old = c.self.inside.book in
     let zero = placed.writer_zero g.U.UpWriter.ring g.U.UpWriter.size g.U.UpWriter.limit g.U.UpWriter.sent g.U.UpWriter.freed g.U.UpWriter.way old c.self.inside.place c.args.writer c.args.self.now c.self.view_is c.self.invariant c.requires.writer in
-    placed.after g.U.UpWriter.ring g.U.UpWriter.size g.U.UpWriter.limit g.U.UpWriter.sent g.U.UpWriter.freed g.U.UpWriter.way old c.take-answer.new.self c.args.writer c.self.inside.place c.steps-steps.result.now c.index-steps-place.result c.self.invariant zero c.steps-steps.ensures c.if-place-steps.false c.index-steps-place.is c.take-answer.ensures.kept c.take-answer.ensures.goes c.take-answer.ensures.moment c.take-answer.ensures.later
+    placed.after g.U.UpWriter.ring g.U.UpWriter.size g.U.UpWriter.limit g.U.UpWriter.sent g.U.UpWriter.freed g.U.UpWriter.way old c.take-answer.new.self c.args.writer c.self.inside.place c.steps-steps.result.now c.index-steps-place.result c.self.invariant zero c.steps-steps.ensures c.if-place-steps.false c.index-steps-place.is c.take-answer.ensures.kept c.take-answer.ensures.goes

@@ -1,15 +1,14 @@
 //! The groups of items that a step gives: an event, a start or a stop with its answers.
-ghost use Rattle.std.specs.Prelude.{◌≡◌, ℕ, ◌+◌, ◌*◌, ◌<◌, ◌≤◌, ◌^◌, List, [], ◌∷◌, ◌++◌, true, Some, map, length, vec_capacity};
+ghost use Rattle.std.specs.Prelude.{◌≡◌, ℕ, ◌+◌, ◌*◌, ◌<◌, ◌^◌, List, [], ◌∷◌, ◌++◌, true, Some, map, length};
 ghost use Rattle.std.specs.List.{list_all};
 ghost use Rattle.sv_workload.specs.Load.{act_of, step_of};
 ghost use Rattle.sv_workload.specs.Need.{IsStepAct};
 ghost use Rattle.sv_recorder.specs.declared.journal.Item.{Item};
-ghost use Rattle.sv_recorder.specs.Formed.{IsFormed, packet_bytes};
-ghost use Rattle.sv_recorder.specs.Needs.{step_items, step_bytes};
+ghost use Rattle.sv_recorder.specs.Formed.{IsFormed, packet_bytes, reply_bytes, stop_bytes};
+ghost use Rattle.sv_recorder.specs.Needs.{start_bytes, start_items, step_bytes, step_items, stop_items};
 ghost use Rattle.sv_recorder.specs.Clock.{clock_of, is_start_kind, reply_of};
 ghost use Rattle.sv_recorder.specs.Items.{latest_first};
 ghost use Rattle.sv_recorder.specs.Legal.{IsNextStep, ticks_of};
-ghost use Rattle.sv_recorder.specs.Plain.{IsPlain};
 
 use crate::answer::Answer;
 use crate::book::Book;
@@ -24,22 +23,19 @@ impl<'w, U: UpWriter + Drop> Book<'w, U> {
     ghost use Rattle.sv_recorder.specs.declared.journal.Origin.{Origin};
     ghost use Rattle.sv_recorder.specs.declared.journal.Origin.TheVariants.{Call, Sync};
     ghost use Rattle.sv_workload.specs.declared.load.Act.TheVariants as acts;
-    ghost use Rattle.sv_recorder.specs.Book.{Holds, Goes};
+    ghost use Rattle.sv_recorder.specs.Book.{Holds, Goes, IsReady};
     ghost use Rattle.sv_recorder.specs.Answer.{answer_of, Gains, IsAnswered};
     ghost use Rattle.sv_recorder.specs.declared.journal.Outcome.{Outcome};
 
     /// Ten zero bytes, by which a host finds its place.
     fn sync(&mut self)
-        requires ring { U.size self.old.up ≡ self.old.load.now.ring }
-        requires room { length self.old.journal.items < vec_capacity self.old.journal }
-        requires within { length (U.sent self.old.up) + 10 ≤ U.limit self.old.up }
+        requires ready { IsReady U.size U.limit U.sent 1 10 self.old }
         requires on { self.old.on ≡ true }
         ensures kept { (rest : List Origin) → Holds U.sent U.freed self.old (Sync ∷ rest) →
             self.old.moment ≡ clock_of self.old.load.now self.old.journal.items →
             Holds U.sent U.freed self.new rest }
         ensures goes { Goes U.ring U.size U.limit U.sent U.freed U.way [] 1 10 self.old self.new }
-        ensures same { (self.new.on ≡ self.old.on) × (self.new.pending ≡ self.old.pending)
-            × (self.new.last ≡ self.old.last) }
+        ensures on { self.new.on ≡ true }
     {
         let _ = self.write(Origin::Sync, &ZEROS);
     }
@@ -47,22 +43,15 @@ impl<'w, U: UpWriter + Drop> Book<'w, U> {
     /// Records replies of these kinds, one after another.
     fn replies(&mut self, kinds: &[Kind])
         requires kinds { list_all is_start_kind kinds.now ≡ true }
-        requires plain { IsPlain self.old.load.now }
-        requires ring { U.size self.old.up ≡ self.old.load.now.ring }
-        requires room { length self.old.journal.items + 2 * length kinds.now ≤ vec_capacity self.old.journal }
-        requires within { length (U.sent self.old.up) + 40 * length kinds.now ≤ U.limit self.old.up }
-        requires later { self.old.last ≤ self.old.moment }
-        requires few { self.old.pending + length kinds.now < 2 ^ 32 }
+        requires ready { IsReady U.size U.limit U.sent (2 * length kinds.now) (reply_bytes * length kinds.now)
+            self.old }
         requires on { self.old.on ≡ true }
         ensures kept { (rest : List Origin) →
             Holds U.sent U.freed self.old (map reply_of kinds.now ++ rest) →
             self.old.moment ≡ clock_of self.old.load.now self.old.journal.items →
             Holds U.sent U.freed self.new rest }
-        ensures goes { Goes U.ring U.size U.limit U.sent U.freed U.way [] (2 * length kinds.now) (40 * length
-            kinds.now) self.old self.new }
-        ensures on { self.new.on ≡ true }
-        ensures later { self.new.last ≤ self.new.moment }
-        ensures pending { self.new.pending ≤ self.old.pending + length kinds.now }
+        ensures goes { Goes U.ring U.size U.limit U.sent U.freed U.way [] (2 * length kinds.now)
+            (reply_bytes * length kinds.now) self.old self.new }
     {
         for kind in kinds {
             self.packet(Origin::Reply {
@@ -75,20 +64,13 @@ impl<'w, U: UpWriter + Drop> Book<'w, U> {
     /// A step that starts the recorder: the step, ten zeros, and what describes the target.
     pub fn start(&mut self, writer: u32, step: u32)
         requires act { act_of self.old.load.now writer step ≡ Some acts.Start }
-        requires plain { IsPlain self.old.load.now }
-        requires ring { U.size self.old.up ≡ self.old.load.now.ring }
-        requires room { length self.old.journal.items + 10 ≤ vec_capacity self.old.journal }
-        requires within { length (U.sent self.old.up) + 170 ≤ U.limit self.old.up }
-        requires later { self.old.last ≤ self.old.moment }
-        requires few { self.old.pending + 4 < 2 ^ 32 }
+        requires ready { IsReady U.size U.limit U.sent start_items start_bytes self.old }
         ensures kept { Holds U.sent U.freed self.old [] →
             IsNextStep self.old.load.now (latest_first self.old.journal.items) (Call writer step) →
             self.old.moment ≡ ticks_of self.old.load.now (Call writer step) + clock_of
             self.old.load.now self.old.journal.items → Holds U.sent U.freed self.new [] }
-        ensures goes { Goes U.ring U.size U.limit U.sent U.freed U.way (Call writer step ∷ []) 10 170 self.old
-            self.new }
-        ensures later { self.new.last ≤ self.new.moment }
-        ensures pending { self.new.pending ≤ self.old.pending + 4 }
+        ensures goes { Goes U.ring U.size U.limit U.sent U.freed U.way (Call writer step ∷ []) start_items
+            start_bytes self.old self.new }
     {
         self.note(Origin::Call { writer, step }, Outcome::Handled);
         self.on = true;
@@ -104,20 +86,13 @@ impl<'w, U: UpWriter + Drop> Book<'w, U> {
     /// A step that stops the recorder: the step, and the packet that says so.
     pub fn stop(&mut self, writer: u32, step: u32)
         requires act { act_of self.old.load.now writer step ≡ Some acts.Stop }
-        requires plain { IsPlain self.old.load.now }
-        requires ring { U.size self.old.up ≡ self.old.load.now.ring }
-        requires room { length self.old.journal.items + 3 ≤ vec_capacity self.old.journal }
-        requires within { length (U.sent self.old.up) + 17 ≤ U.limit self.old.up }
-        requires later { self.old.last ≤ self.old.moment }
-        requires few { self.old.pending + 1 < 2 ^ 32 }
+        requires ready { IsReady U.size U.limit U.sent stop_items stop_bytes self.old }
         ensures kept { Holds U.sent U.freed self.old [] →
             IsNextStep self.old.load.now (latest_first self.old.journal.items) (Call writer step) →
             self.old.moment ≡ ticks_of self.old.load.now (Call writer step) + clock_of
             self.old.load.now self.old.journal.items → Holds U.sent U.freed self.new [] }
-        ensures goes { Goes U.ring U.size U.limit U.sent U.freed U.way (Call writer step ∷ []) 3 17 self.old
-            self.new }
-        ensures later { self.new.last ≤ self.new.moment }
-        ensures pending { self.new.pending ≤ self.old.pending + 1 }
+        ensures goes { Goes U.ring U.size U.limit U.sent U.freed U.way (Call writer step ∷ []) stop_items
+            stop_bytes self.old self.new }
     {
         self.note(Origin::Call { writer, step }, Outcome::Handled);
         self.packet(Origin::Reply {
@@ -130,21 +105,14 @@ impl<'w, U: UpWriter + Drop> Book<'w, U> {
     /// A step that records an event.
     fn event(&mut self, writer: u32, step: u32) -> Answer
         requires formed { IsFormed self.old.load.now (Call writer step) }
-        requires plain { IsPlain self.old.load.now }
-        requires ring { U.size self.old.up ≡ self.old.load.now.ring }
-        requires room { length self.old.journal.items + 2 ≤ vec_capacity self.old.journal }
-        requires within { length (U.sent self.old.up) + packet_bytes self.old.load.now (Call writer step) ≤
-            U.limit self.old.up }
-        requires later { self.old.last ≤ self.old.moment }
-        requires few { self.old.pending + 1 < 2 ^ 32 }
+        requires ready { IsReady U.size U.limit U.sent 2
+            (packet_bytes self.old.load.now (Call writer step)) self.old }
         ensures kept { Holds U.sent U.freed self.old [] →
             IsNextStep self.old.load.now (latest_first self.old.journal.items) (Call writer step) →
             self.old.moment ≡ ticks_of self.old.load.now (Call writer step) + clock_of
             self.old.load.now self.old.journal.items → Holds U.sent U.freed self.new [] }
-        ensures goes { Goes U.ring U.size U.limit U.sent U.freed U.way (Call writer step ∷ []) 2 (packet_bytes
-            self.old.load.now (Call writer step)) self.old self.new }
-        ensures later { self.new.last ≤ self.new.moment }
-        ensures pending { self.new.pending ≤ self.old.pending + 1 }
+        ensures goes { Goes U.ring U.size U.limit U.sent U.freed U.way (Call writer step ∷ []) 2
+            (packet_bytes self.old.load.now (Call writer step)) self.old self.new }
         ensures answered { (outcome : Outcome)
             × Gains self.old.journal.items self.new.journal.items (Call writer step) outcome
             × (result ≡ answer_of outcome) }
@@ -157,25 +125,17 @@ impl<'w, U: UpWriter + Drop> Book<'w, U> {
     pub fn take(&mut self, writer: u32, place: u32, step: &Step) -> Answer
         requires step { step_of self.old.load.now writer place ≡ Some step.now }
         requires act { IsStepAct step.now.act }
-        requires plain { IsPlain self.old.load.now }
-        requires ring { U.size self.old.up ≡ self.old.load.now.ring }
-        requires room { length self.old.journal.items + step_items step.now ≤ vec_capacity self.old.journal }
-        requires within { length (U.sent self.old.up) + step_bytes step.now ≤ U.limit self.old.up }
-        requires later { self.old.last ≤ self.old.moment }
-        requires few { self.old.pending + 4 < 2 ^ 32 }
+        requires ready { IsReady U.size U.limit U.sent (step_items step.now) (step_bytes step.now) self.old }
         requires ticks { self.old.moment + step.now.advance < 2 ^ 64 }
         ensures kept { Holds U.sent U.freed self.old [] →
             IsNextStep self.old.load.now (latest_first self.old.journal.items) (Call writer place) →
             self.old.moment ≡ clock_of self.old.load.now self.old.journal.items →
             Holds U.sent U.freed self.new [] }
-        ensures goes { Goes U.ring U.size U.limit U.sent U.freed U.way (Call writer place ∷ []) (step_items
-            step.now) (step_bytes step.now) (record self.old {
+        ensures goes { Goes U.ring U.size U.limit U.sent U.freed U.way (Call writer place ∷ [])
+            (step_items step.now) (step_bytes step.now) (record self.old {
               moment = self.old.moment +
                   step.now.advance;
             }) self.new }
-        ensures moment { self.new.moment ≡ self.old.moment + step.now.advance }
-        ensures later { self.new.last ≤ self.new.moment }
-        ensures pending { self.new.pending ≤ self.old.pending + 4 }
         ensures answered { IsAnswered self.old.load.now self.old.journal.items self.new.journal.items
             (Call writer place) result }
     {

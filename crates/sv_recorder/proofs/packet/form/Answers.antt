@@ -6,7 +6,7 @@ use Rattle.sv_recorder.specs.Formed.{block_bytes}
 use Rattle.sv_recorder.specs.Items.{reply_event}
 use Rattle.sv_recorder.specs.Writes.{packet_block}
 use Rattle.sv_recorder.proofs.Forms.{reply_short, same_reply}
-use Rattle.sv_recorder.proofs.forming.form.Goals as goal
+use Rattle.sv_recorder.proofs.packet.form.Goals as goal
 
 pub returns-in-Reply-clause-short : goal.returns-in-Reply-clause-short
 returns-in-Reply-clause-short c =

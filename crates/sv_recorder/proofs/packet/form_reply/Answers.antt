@@ -1,6 +1,6 @@
 use Rattle.std.proofs.Common.{◌%◌, ◌^◌, refl}
 use Rattle.sv_packet.specs.declared.event.Event.TheVariants.{SystimeCycles}
-use Rattle.sv_recorder.proofs.forming.form_reply.Goals as goal
+use Rattle.sv_recorder.proofs.packet.form_reply.Goals as goal
 
 pub returns-in-Systime : goal.returns-in-Systime
 returns-in-Systime c = record {

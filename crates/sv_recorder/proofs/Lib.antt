@@ -1,23 +1,9 @@
-pub mod Short
-pub mod Alone
-pub mod Moving
-pub mod Refusals
-mod Texts
-pub mod Restarted
-pub mod Asked
-pub mod Stopped
-pub mod Commands
-pub mod Clocked
-pub mod NotRefusals
-pub mod NotRestarted
-pub mod NotCommands
-pub mod NotAsked
-pub mod Told
+pub mod Laws
+pub mod examples
 pub mod Steps
 pub mod Freed
 pub mod Next
 pub mod Kept
-pub mod Gated
 pub mod Scripts
 pub mod Recorded
 pub mod Behind

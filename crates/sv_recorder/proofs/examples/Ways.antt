@@ -1,8 +1,9 @@
--- What is known to be freed over a journal worked out by hand: which ways of a ring it follows, and which it does not.
+-- What is known to be freed over a journal worked out by hand: which ways of a ring it follows, and
+-- which it does not.
 use Rattle.std.proofs.Common.{◌≡◌, ℕ, ◌<◌, [], ◌∷◌, ◌⊎◌, inl, inr, refl, arith, rules}
 use Rattle.sv_ring.specs.Ring.{Way, Still, Oldest, Plan, Beside}
 use Rattle.sv_recorder.specs.Freed.{AreFreed}
-use Rattle.sv_recorder.proofs.Alone.{load, items}
+use Rattle.sv_recorder.proofs.examples.Alone.{load, items}
 
 apart : (n m : ℕ) → n ≡ m → (n < m) ⊎ (m < n) → ⊥
 apart n m same (inl less) = omega (arith, same, less)

@@ -1,4 +1,5 @@
--- A journal of events with texts, arguments and payloads, its stream and what that needs, and that it is legal.
+-- A journal of events with texts, arguments and payloads, its stream and what that needs, and that
+-- it is legal.
 use Rattle.std.proofs.Common.{◌≡◌, List, [], ◌∷◌, ◌++◌, Some, refl, rules}
 use Rattle.std.specs.Prelude.{codes}
 use Rattle.sv_packet.specs.declared.event.Event.TheVariants.{NameResource, Print, Opaque, EndCall}
@@ -10,8 +11,8 @@ use Rattle.sv_recorder.specs.declared.journal.Outcome.TheVariants.{Stored}
 use Rattle.sv_recorder.specs.declared.journal.Item.{Item}
 use Rattle.sv_recorder.specs.Legal.{IsLegal}
 use Rattle.sv_recorder.specs.Stream.{stream_of}
-use Rattle.sv_recorder.proofs.Alone as alone
-use Rattle.sv_recorder.proofs.Short.{at, load_of, start}
+use Rattle.sv_recorder.proofs.examples.Alone as alone
+use Rattle.sv_recorder.proofs.examples.Words.{at, load_of, start}
 
 abbrev load : Load
 load = load_of 1024 (
@@ -23,10 +24,12 @@ load = load_of 1024 (
     ∷ [])
 
 abbrev items : List Item
-items = alone.items ++ (at 1 0 (Call 0 1) Stored ∷ at 3 0 (Call 0 2) Stored ∷ at 4 0 (Call 0 3) Stored ∷ at 5 0 (Call 0 4) Stored ∷ [])
+items = alone.items ++ (at 1 0 (Call 0 1) Stored ∷ at 3 0 (Call 0 2) Stored
+    ∷ at 4 0 (Call 0 3) Stored ∷ at 5 0 (Call 0 4) Stored ∷ [])
 
--- each packet has its length behind its identifier; 4096 is 0, 32 and 512 is 0, 4 by sevens of bits
-stream : stream_of load items ≡ alone.bytes ++ (25 ∷ 5 ∷ 128 ∷ 32 ∷ 2 ∷ 97 ∷ 98 ∷ 1 ∷ 26 ∷ 6 ∷ 2 ∷ 104 ∷ 105 ∷ 0 ∷ 1 ∷ 5 ∷ 2 ∷ 128 ∷ 4 ∷ 1 ∷ 7 ∷ 1 ∷ 28 ∷ 3 ∷ 128 ∷ 4 ∷ 0 ∷ 1 ∷ [])
+-- each packet has its length after its identifier; 4096 is 0, 32 and 512 is 0, 4 by sevens of bits
+stream : stream_of load items ≡ alone.bytes ++ (25 ∷ 5 ∷ 128 ∷ 32 ∷ 2 ∷ 97 ∷ 98 ∷ 1 ∷ 26 ∷ 6 ∷ 2
+    ∷ 104 ∷ 105 ∷ 0 ∷ 1 ∷ 5 ∷ 2 ∷ 128 ∷ 4 ∷ 1 ∷ 7 ∷ 1 ∷ 28 ∷ 3 ∷ 128 ∷ 4 ∷ 0 ∷ 1 ∷ [])
 stream = refl
 
 legal : IsLegal load items

@@ -7,7 +7,7 @@ use Rattle.sv_recorder.specs.declared.journal.Origin.{Origin}
 use Rattle.sv_recorder.specs.declared.journal.Origin.TheVariants.{Call, Sync, Reply, Overflow}
 use Rattle.sv_recorder.specs.declared.journal.Origin.TheVariants.{Command}
 use Rattle.sv_recorder.specs.Legal.{is_control}
-use Rattle.sv_recorder.specs.Writes.{packet_block, is_telling}
+use Rattle.sv_recorder.specs.Writes.{packet_block, is_call_or_reply}
 use Rattle.sv_need.specs.Short.{HasShortTexts}
 use Rattle.sv_need.specs.Weights.{Weights, plain_weight, weight, item_weights, byte_weights}
 use Rattle.sv_need.proofs.Sizes.{IsPlainSize}
@@ -17,7 +17,7 @@ plain-weight : (w : Weights) (load : Load) (origin : Origin) → is_control load
     → weight w load origin ≡ plain_weight w load origin
 plain-weight w load origin other = ap (λ b. cond b w.control (plain_weight w load origin)) other
 
-two_items : (load : Load) (origin : Origin) → is_telling origin ≡ true
+two_items : (load : Load) (origin : Origin) → is_call_or_reply origin ≡ true
     → plain_weight item_weights load origin ≡ 2
 two_items load (Call writer step) telling = refl
 two_items load (Reply kinds.TraceStart index) telling = refl
@@ -27,12 +27,12 @@ two_items load Sync telling = absurd cc
 two_items load (Overflow count) telling = absurd cc
 two_items load (Command byte param) telling = absurd cc
 
-pub packet_items : (load : Load) (origin : Origin) → is_telling origin ≡ true
+pub packet_items : (load : Load) (origin : Origin) → is_call_or_reply origin ≡ true
     → is_control load origin ≡ false → weight item_weights load origin ≡ 2
 packet_items load origin telling other = plain-weight item_weights load origin other
     ∙ two_items load origin telling
 
-with_overflow : (load : Load) (origin : Origin) (size : ℕ) → is_telling origin ≡ true
+with_overflow : (load : Load) (origin : Origin) (size : ℕ) → is_call_or_reply origin ≡ true
     → IsPlainSize byte_weights load 11 size origin
     → size + 11 ≤ plain_weight byte_weights load origin
 with_overflow load (Call writer step) size telling plain = plain
@@ -42,7 +42,7 @@ with_overflow load (Overflow count) size telling plain = absurd cc
 with_overflow load (Command byte param) size telling plain = absurd cc
 
 packet_size : (load : Load) (origin : Origin) (moment last : ℕ) → HasShortTexts load
-    → is_telling origin ≡ true → IsPlainSize byte_weights load 11
+    → is_call_or_reply origin ≡ true → IsPlainSize byte_weights load 11
     (length (packet_block load origin moment last)) origin
 packet_size load (Call writer step) moment last short telling =
     plain_bytes load (Call writer step) moment ((moment - last) % period load)
@@ -55,7 +55,7 @@ packet_size load (Overflow count) moment last short telling = absurd cc
 packet_size load (Command byte param) moment last short telling = absurd cc
 
 pub packet_bytes_room : (load : Load) (origin : Origin) (moment last : ℕ) → HasShortTexts load
-    → is_telling origin ≡ true → is_control load origin ≡ false
+    → is_call_or_reply origin ≡ true → is_control load origin ≡ false
     → length (packet_block load origin moment last) + 11 ≤ weight byte_weights load origin
 packet_bytes_room load origin moment last short telling other =
     omega (

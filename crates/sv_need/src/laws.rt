@@ -8,7 +8,7 @@ ghost use Rattle.sv_recorder.specs.declared.journal.Origin.{Origin};
 ghost use Rattle.sv_recorder.specs.Legal.{IsLegal, is_control};
 ghost use Rattle.sv_recorder.specs.Open.{IsOpen, IsDue};
 ghost use Rattle.sv_recorder.specs.Stream.{stream_of};
-ghost use Rattle.sv_recorder.specs.Writes.{packet_block, is_telling};
+ghost use Rattle.sv_recorder.specs.Writes.{packet_block, is_call_or_reply};
 ghost use Rattle.sv_need.specs.Short.{HasShortTexts};
 ghost use Rattle.sv_need.specs.Weights.{weight, item_weights, byte_weights, items_ahead, bytes_ahead};
 ghost use Rattle.sv_need.specs.Next.{MayCome};
@@ -41,10 +41,10 @@ pub fn room_ahead()
 
 /// The law of a packet's room: what is due has room for a packet with an overflow of 11 bytes before it.
 pub fn packet_room()
-    ensures items { (load : Load) → (origin : Origin) → is_telling origin ≡ true →
+    ensures items { (load : Load) → (origin : Origin) → is_call_or_reply origin ≡ true →
         is_control load origin ≡ false → weight item_weights load origin ≡ 2 }
     ensures bytes { (load : Load) → (origin : Origin) → (moment last : ℕ) → HasShortTexts load →
-        is_telling origin ≡ true → is_control load origin ≡ false →
+        is_call_or_reply origin ≡ true → is_control load origin ≡ false →
         length (packet_block load origin moment last) + 11 ≤ weight byte_weights load origin }
     ensures overflow { (count delta : ℕ) → length (spelling_of (Overflow count) delta) ≤ 11 }
 {}

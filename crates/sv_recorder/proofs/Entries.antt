@@ -21,40 +21,40 @@ use Rattle.sv_recorder.specs.Legal.{is_head, origins_of}
 use Rattle.sv_recorder.specs.Kept.{Keeps}
 use Rattle.sv_recorder.specs.Plain.{IsPlain}
 use Rattle.sv_recorder.specs.Stream.{stream_of}
-use Rattle.sv_recorder.specs.Writes.{Writes, MovesBy, made, outcome_if, packet_block, is_telling, IsPacketHere}
+use Rattle.sv_recorder.specs.Writes.{Writes, MovesBy, made, outcome_if, packet_block, is_call_or_reply, IsPacketHere}
 use Rattle.sv_recorder.specs.Formed.{IsFormed, packet_bytes, block_bytes, overflow_bytes}
 use Rattle.sv_recorder.specs.Book.{Holds, HoldsAs, IsReady, Goes, head_if}
 use Rattle.sv_recorder.proofs.Steps.{latest_first-push, last_moment-stored, last_moment-other}
 use Rattle.sv_recorder.proofs.Freed.{Written, written-stream, written-freed, unwritten-stream, unwritten-freed, packet_written, refused_unwritten, freed-append}
-use Rattle.sv_recorder.proofs.Recorded.{packet-off, packet-plain, block_here, not_sync, not_overflow}
-use Rattle.sv_recorder.proofs.Behind.{packet-behind_refused, packet-behind_stored}
+use Rattle.sv_recorder.proofs.Packets.{packet-off, packet-plain, block_here, not_sync, not_overflow}
+use Rattle.sv_recorder.proofs.Overflows.{packet-after_refused, packet-after_stored}
 
--- the heads among an overflow and an item behind it
-pub headed_behind : (origin : Origin) (count moment freed freed_now : ℕ) (told outcome : Outcome)
+-- the heads among an overflow and an item after it
+pub headed_after : (origin : Origin) (count moment freed freed_now : ℕ) (told outcome : Outcome)
     → filter is_head (origins_of (made (Overflow count) moment freed told ∷ made origin moment freed_now outcome ∷ [])) ≡ head_if origin
-headed_behind (Call writer step) count moment freed freed_now told outcome = refl
-headed_behind Sync count moment freed freed_now told outcome = refl
-headed_behind (Reply kind index) count moment freed freed_now told outcome = refl
-headed_behind (Overflow more) count moment freed freed_now told outcome = refl
-headed_behind (Command byte param) count moment freed freed_now told outcome = refl
+headed_after (Call writer step) count moment freed freed_now told outcome = refl
+headed_after Sync count moment freed freed_now told outcome = refl
+headed_after (Reply kind index) count moment freed freed_now told outcome = refl
+headed_after (Overflow more) count moment freed freed_now told outcome = refl
+headed_after (Command byte param) count moment freed freed_now told outcome = refl
 
 -- an overflow has its place in what a packet may have
-pub bytes_behind : (load : Load) (origin : Origin) → IsFormed load origin → 11 + block_bytes load origin ≡ packet_bytes load origin
-bytes_behind load (Call writer step) (event, is, can) =
+pub bytes_after : (load : Load) (origin : Origin) → IsFormed load origin → 11 + block_bytes load origin ≡ packet_bytes load origin
+bytes_after load (Call writer step) (event, is, can) =
     let bytes : option_map_or act_bytes (act_of load writer step) 0 ≡ act_bytes (acts.Event event) = ap (λ act. option_map_or act_bytes act 0) is in
     omega (arith, bytes)
-bytes_behind load (Overflow count) formed = refl
-bytes_behind load (Reply kinds.TraceStart index) formed = refl
-bytes_behind load (Reply kinds.Init index) formed = refl
-bytes_behind load (Reply kinds.Systime index) formed = refl
-bytes_behind load (Reply kinds.ModuleCount index) formed = refl
-bytes_behind load (Reply kinds.TraceStop index) formed = refl
-bytes_behind load (Reply kinds.Line index) formed = absurd formed
-bytes_behind load (Reply kinds.Task index) formed = absurd formed
-bytes_behind load (Reply kinds.Stack index) formed = absurd formed
-bytes_behind load (Reply kinds.Module index) formed = absurd formed
-bytes_behind load Sync formed = absurd formed
-bytes_behind load (Command byte param) formed = absurd formed
+bytes_after load (Overflow count) formed = refl
+bytes_after load (Reply kinds.TraceStart index) formed = refl
+bytes_after load (Reply kinds.Init index) formed = refl
+bytes_after load (Reply kinds.Systime index) formed = refl
+bytes_after load (Reply kinds.ModuleCount index) formed = refl
+bytes_after load (Reply kinds.TraceStop index) formed = refl
+bytes_after load (Reply kinds.Line index) formed = absurd formed
+bytes_after load (Reply kinds.Task index) formed = absurd formed
+bytes_after load (Reply kinds.Stack index) formed = absurd formed
+bytes_after load (Reply kinds.Module index) formed = absurd formed
+bytes_after load Sync formed = absurd formed
+bytes_after load (Command byte param) formed = absurd formed
 
 -- a block is as long as the form says
 pub as_long : (slice form : List ℕ) (most : ℕ) → slice ≡ form → length form ≤ most → length slice ≤ most
@@ -75,9 +75,9 @@ headed_at : (origin : Origin) (count moment moment_now freed freed_now : ℕ) (t
     → filter is_head (origins_of (made (Overflow count) moment freed told ∷ made origin moment_now freed_now outcome ∷ [])) ≡ head_if origin
 headed_at origin count moment moment_now freed freed_now told outcome same =
     subst (λ (k : ℕ). filter is_head (origins_of (made (Overflow count) moment freed told ∷ made origin k freed_now outcome ∷ [])) ≡ head_if origin) (sym same)
-    (headed_behind origin count moment freed freed_now told outcome)
+    (headed_after origin count moment freed freed_now told outcome)
 
--- the moment of the last stored packet, behind a write
+-- the moment of the last stored packet, after a write
 settled_last : (earlier : List Item) (i : Item) (moment last moment_now last_now : ℕ) (stored : Bool) → i.outcome ≡ outcome_if stored → i.moment ≡ moment → is_sync i.origin ≡ false
     → moment_now ≡ moment → last_now ≡ last_moment earlier → (if stored then moment_now else last_now) ≡ last_moment (i ∷ earlier)
 settled_last earlier i moment last moment_now last_now true outcome at other same before = same ∙ sym at ∙ sym (last_moment-stored earlier i (ap is_stored outcome) other)
@@ -184,12 +184,12 @@ module _ {U : Type 0} (ring : U → List (List ℕ)) (size limit : U → ℕ) (s
       let same_last : new.last ≡ old.last = ap (λ (b : Book U). b.last) noted ∙ ap (λ (b : Book U). b.last) written in
       let same_up : new.up ≡ mid.up = ap (λ (b : Book U). b.up) noted in
       let grown : new.journal.items ≡ mid.journal.items ++ made origin old.moment (freed mid.up) Refused ∷ [] = item ∙ ap (λ (m : ℕ). mid.journal.items ++ made origin m (freed mid.up) Refused ∷ []) same_moment in
-      let kept = packet-behind_refused old.load.now old.journal.items mid.journal.items new.journal.items owed rest (sent old.up) (sent mid.up) (freed old.up) (freed mid.up) old.pending old.last origin old.moment k2 some p w grown in
+      let kept = packet-after_refused old.load.now old.journal.items mid.journal.items new.journal.items owed rest (sent old.up) (sent mid.up) (freed old.up) (freed mid.up) old.pending old.last origin old.moment k2 some p w grown in
       let one : old.pending + 1 ≡ 1 + old.pending = omega arith in
       rw (same_load, same_last, same_up, one) kept
 
-  -- written behind a stored overflow
-  pub behind-holds : (old first second new : Book U) (origin : Origin) (overflow block : List ℕ) (stored : Bool)
+  -- written after a stored overflow
+  pub after-holds : (old first second new : Book U) (origin : Origin) (overflow block : List ℕ) (stored : Bool)
       → first ≡ record old { journal = first.journal; up = first.up }
       → second ≡ record first { journal = second.journal; up = second.up }
       → new ≡ record second { pending = if stored then 0 else 1; last = if stored then second.moment else second.moment }
@@ -200,7 +200,7 @@ module _ {U : Type 0} (ring : U → List (List ℕ)) (size limit : U → ℕ) (s
       → block ≡ packet_block old.load.now origin old.moment old.moment
       → (owed rest : List Origin) → Holds sent freed old owed → IsPacketHere old.load.now old.journal.items owed origin old.moment rest
       → HoldsAs sent freed (not (is_stop_reply origin)) new rest
-  behind-holds old first second new origin overflow block stored written again settled fits same_size on some writes formed writes2 formed2 owed rest k p =
+  after-holds old first second new origin overflow block stored written again settled fits same_size on some writes formed writes2 formed2 owed rest k p =
       let v : Writes old.load.now.ring old.journal.items first.journal.items (sent old.up) (sent first.up) (freed old.up) (freed first.up) (Overflow old.pending) old.moment (packet_block old.load.now (Overflow old.pending) old.moment old.last) true =
       subst (λ (n : ℕ). Writes n old.journal.items first.journal.items (sent old.up) (sent first.up) (freed old.up) (freed first.up) (Overflow old.pending) old.moment (packet_block old.load.now (Overflow old.pending) old.moment old.last) true) fits
       (subst (λ (b : List ℕ). Writes (size old.up) old.journal.items first.journal.items (sent old.up) (sent first.up) (freed old.up) (freed first.up) (Overflow old.pending) old.moment b true) formed writes) in
@@ -211,7 +211,7 @@ module _ {U : Type 0} (ring : U → List (List ℕ)) (size limit : U → ℕ) (s
       (subst (λ (m : ℕ). Writes (size first.up) first.journal.items second.journal.items (sent first.up) (sent second.up) (freed first.up) (freed second.up) origin m block stored) first_moment writes2)) in
       let k2 : Keeps old.load.now old.journal.items owed (sent old.up) (freed old.up) true old.pending old.last =
       subst (λ (b : Bool). Keeps old.load.now old.journal.items owed (sent old.up) (freed old.up) b old.pending old.last) on k in
-      let kept = packet-behind_stored old.load.now old.journal.items first.journal.items second.journal.items owed rest (sent old.up) (sent first.up) (sent second.up) (freed old.up) (freed first.up) (freed second.up) old.pending old.last origin old.moment stored k2 some p v w in
+      let kept = packet-after_stored old.load.now old.journal.items first.journal.items second.journal.items owed rest (sent old.up) (sent first.up) (sent second.up) (freed old.up) (freed first.up) (freed second.up) old.pending old.last origin old.moment stored k2 some p v w in
       let same_load : second.load.now ≡ old.load.now = ap (λ (b : Book U). b.load.now) again ∙ ap (λ (b : Book U). b.load.now) written in
       let same_moment : second.moment ≡ old.moment = ap (λ (b : Book U). b.moment) again ∙ first_moment in
       let whole : Keeps second.load.now second.journal.items rest (sent second.up) (freed second.up) (not (is_stop_reply origin)) (if stored then 0 else 1) second.moment = rw (same_load, same_moment) kept in
@@ -248,7 +248,7 @@ module _ {U : Type 0} (ring : U → List (List ℕ)) (size limit : U → ℕ) (s
       → Writes (size old.up) old.journal.items mid.journal.items (sent old.up) (sent mid.up) (freed old.up) (freed mid.up) origin old.moment block stored
       → MovesBy size sent freed way old.up mid.up block stored
       → block ≡ packet_block old.load.now origin old.moment old.last → length block ≤ block_bytes old.load.now origin
-      → is_telling origin ≡ true → IsFormed old.load.now origin
+      → is_call_or_reply origin ≡ true → IsFormed old.load.now origin
       → Goes ring size limit sent freed way (head_if origin) 2 (packet_bytes old.load.now origin) old new
   plain-goes old mid new origin block stored written settled fits same capacity w moves formed short telling fine =
       let earlier : List Item = latest_first old.journal.items in
@@ -266,7 +266,7 @@ module _ {U : Type 0} (ring : U → List (List ℕ)) (size limit : U → ℕ) (s
         added = w.item;
         headed = headed_one origin old.moment (freed mid.up) (outcome_if stored);
         few = omega arith;
-        short = omega (arith, one, short, bytes_behind old.load.now origin fine);
+        short = omega (arith, one, short, bytes_after old.load.now origin fine);
         pending = settled_pending stored old.pending;
         later = λ before. settled_later stored mid.last mid.moment (omega (arith, before, ap (λ (b : Book U). b.last) written, ap (λ (b : Book U). b.moment) written));
         moved = λ s.
@@ -292,7 +292,7 @@ module _ {U : Type 0} (ring : U → List (List ℕ)) (size limit : U → ℕ) (s
       → MovesBy size sent freed way old.up mid.up overflow false
       → overflow ≡ packet_block old.load.now (Overflow old.pending) old.moment old.last
       → new.journal.items ≡ mid.journal.items ++ made origin mid.moment (freed mid.up) Refused ∷ []
-      → is_telling origin ≡ true → pending ≤ old.pending + 2
+      → is_call_or_reply origin ≡ true → pending ≤ old.pending + 2
       → Goes ring size limit sent freed way (head_if origin) 2 (packet_bytes old.load.now origin) old (record new { pending = pending })
   refused-goes old mid new origin overflow pending written noted fits same capacity capacity2 w moves formed item telling some =
       let earlier : List Item = latest_first old.journal.items in
@@ -333,8 +333,8 @@ module _ {U : Type 0} (ring : U → List (List ℕ)) (size limit : U → ℕ) (s
             );
       }
 
-  -- written behind a stored overflow
-  pub behind-goes : (old first second new : Book U) (origin : Origin) (overflow block : List ℕ) (stored : Bool) (pending : ℕ)
+  -- written after a stored overflow
+  pub after-goes : (old first second new : Book U) (origin : Origin) (overflow block : List ℕ) (stored : Bool) (pending : ℕ)
       → first ≡ record old { journal = first.journal; up = first.up }
       → second ≡ record first { journal = second.journal; up = second.up }
       → new ≡ record second { pending = pending; last = if stored then second.moment else second.moment }
@@ -346,9 +346,9 @@ module _ {U : Type 0} (ring : U → List (List ℕ)) (size limit : U → ℕ) (s
       → Writes (size first.up) first.journal.items second.journal.items (sent first.up) (sent second.up) (freed first.up) (freed second.up) origin first.moment block stored
       → MovesBy size sent freed way old.up first.up overflow true → MovesBy size sent freed way first.up second.up block stored
       → overflow ≡ packet_block old.load.now (Overflow old.pending) old.moment old.last → block ≡ packet_block old.load.now origin old.moment old.moment
-      → length overflow ≤ 11 → length block ≤ block_bytes old.load.now origin → is_telling origin ≡ true → IsFormed old.load.now origin → pending ≤ old.pending + 2
+      → length overflow ≤ 11 → length block ≤ block_bytes old.load.now origin → is_call_or_reply origin ≡ true → IsFormed old.load.now origin → pending ≤ old.pending + 2
       → Goes ring size limit sent freed way (head_if origin) 2 (packet_bytes old.load.now origin) old new
-  behind-goes old first second new origin overflow block stored pending written again settled fits same same2 capacity capacity2 v w moves moves2 formed formed2 short short2 telling fine some =
+  after-goes old first second new origin overflow block stored pending written again settled fits same same2 capacity capacity2 v w moves moves2 formed formed2 short short2 telling fine some =
       let earlier : List Item = latest_first old.journal.items in
       let o : Item = made (Overflow old.pending) old.moment (freed first.up) Stored in
       let i : Item = made origin first.moment (freed second.up) (outcome_if stored) in
@@ -370,7 +370,7 @@ module _ {U : Type 0} (ring : U → List (List ℕ)) (size limit : U → ℕ) (s
         added = w.item ∙ ap (λ (is : List Item). is ++ i ∷ []) v.item ∙ append_assoc old.journal.items (o ∷ []) (i ∷ []);
         headed = headed_at origin old.pending old.moment first.moment (freed first.up) (freed second.up) Stored (outcome_if stored) first_moment;
         few = omega arith;
-        short = omega (arith, one, two, short, short2, bytes_behind old.load.now origin fine);
+        short = omega (arith, one, two, short, short2, bytes_after old.load.now origin fine);
         pending = some;
         later = λ before. settled_later stored second.moment second.moment (omega arith);
         moved = λ s.
@@ -408,7 +408,7 @@ module _ {U : Type 0} (ring : U → List (List ℕ)) (size limit : U → ℕ) (s
     ring = same.1 ∙ r.ring ∙ sym (ap (λ (l : Load). l.ring) (same_load old mid written));
     later = omega (arith, r.later, ap (λ (b : Book U). b.last) written, ap (λ (b : Book U). b.moment) written);
     room = omega (arith, r.room, capacity, ap length w.item, length-append {A = Item});
-    within = omega (arith, r.within, ap length w.grown, length-append (sent old.up) overflow, short, short2, bytes_behind old.load.now origin formed, same.2);
+    within = omega (arith, r.within, ap length w.grown, length-append (sent old.up) overflow, short, short2, bytes_after old.load.now origin formed, same.2);
     few = omega (arith, r.few, ap (λ (b : Book U). b.pending) written);
   }
 

@@ -10,23 +10,23 @@ use Rattle.sv_recorder.specs.declared.journal.Outcome.TheVariants.{Refused, Igno
 use Rattle.sv_recorder.specs.declared.journal.Item.{Item}
 use Rattle.sv_recorder.specs.Items.{latest_first, is_stored, is_written, is_after_refused_overflow, block_of, stream_before, room_at}
 use Rattle.sv_recorder.specs.Stream.{stream_of}
-use Rattle.sv_recorder.specs.Freed.{wrote_if, way_behind, AreFreed}
-use Rattle.sv_recorder.specs.Writes.{made, outcome_if, is_telling}
+use Rattle.sv_recorder.specs.Freed.{wrote_if, way_left, AreFreed}
+use Rattle.sv_recorder.specs.Writes.{made, outcome_if, is_call_or_reply}
 use Rattle.sv_recorder.proofs.Steps.{latest_first-push, stream_of-push}
 
--- over some items, and then over those behind them
+-- over some items, and then over those after them
 pub freed-append : (load : Load) (items xs ys : List Item) (way mid last : Way) (freed between now : ℕ)
     → AreFreed load (latest_first items) xs way freed mid between → AreFreed load (latest_first (items ++ xs)) ys mid between last now
     → AreFreed load (latest_first items) (xs ++ ys) way freed last now
 freed-append load items [] ys way mid last freed between now p q =
     rw (sym p.0, sym p.1) (subst (λ (is : List Item). AreFreed load (latest_first is) ys mid between last now) (append-nil items) q)
 freed-append load items (i ∷ xs) ys way mid last freed between now p q =
-    let rest : AreFreed load (latest_first (items ++ i ∷ [])) xs (way_behind (latest_first items) i way) i.freed mid between =
-    subst (λ (es : List Item). AreFreed load es xs (way_behind (latest_first items) i way) i.freed mid between) (sym (latest_first-push items i)) p.1 in
+    let rest : AreFreed load (latest_first (items ++ i ∷ [])) xs (way_left (latest_first items) i way) i.freed mid between =
+    subst (λ (es : List Item). AreFreed load es xs (way_left (latest_first items) i way) i.freed mid between) (sym (latest_first-push items i)) p.1 in
     let behind : AreFreed load (latest_first ((items ++ i ∷ []) ++ xs)) ys mid between last now =
     subst (λ (is : List Item). AreFreed load (latest_first is) ys mid between last now) (sym (append_assoc items (i ∷ []) xs)) q in
-    let both = freed-append load (items ++ i ∷ []) xs ys (way_behind (latest_first items) i way) mid last i.freed between now rest behind in
-    (p.0, subst (λ (es : List Item). AreFreed load es (xs ++ ys) (way_behind (latest_first items) i way) i.freed last now) (latest_first-push items i) both)
+    let both = freed-append load (items ++ i ∷ []) xs ys (way_left (latest_first items) i way) mid last i.freed between now rest behind in
+    (p.0, subst (λ (es : List Item). AreFreed load es (xs ++ ys) (way_left (latest_first items) i way) i.freed last now) (latest_first-push items i) both)
 
 -- where writes free nothing, nothing is freed
 pub still-freed : (load : Load) (earlier more : List Item) (way last : Way) (freed now : ℕ) → way ≡ Still → AreFreed load earlier more way freed last now
@@ -34,7 +34,7 @@ pub still-freed : (load : Load) (earlier more : List Item) (way last : Way) (fre
 still-freed load earlier [] way last freed now still p = (p.0 ∙ still, p.1, All-nil (λ (i : Item). i.freed ≡ freed))
 still-freed load earlier (i ∷ more) way last freed now still p =
     let here : i.freed ≡ freed = by (is_written earlier i) (λ w. moves w still p.0.0) p.0.1 in
-    let rest = still-freed load (i ∷ earlier) more (way_behind earlier i way) last i.freed now (stays (is_written earlier i) still) p.1 in
+    let rest = still-freed load (i ∷ earlier) more (way_left earlier i way) last i.freed now (stays (is_written earlier i) still) p.1 in
     (rest.0, rest.1 ∙ here, All-cons (λ (j : Item). j.freed ≡ freed) i more here (subst (λ (f : ℕ). All (λ j. j.freed ≡ f) more) here rest.2))
   where
     moves : IsTrue (is_written earlier i) → way ≡ Still
@@ -52,7 +52,7 @@ still-freed load earlier (i ∷ more) way last freed now still p =
 
 -- ONE ITEM MORE
 
--- the item and what is stored behind it, of an item that is written
+-- the item and what is stored after it, of an item that is written
 pub record Written (load : Load) (items : List Item) (sent block : List ℕ) (i : Item) (stored : Bool) : Type 0 where
   pub stream : sent ≡ stream_of load items
   pub written : is_written (latest_first items) i ≡ true
@@ -93,7 +93,7 @@ unwritten-freed load earlier i way freed not same = ((λ w. absurd (cc (w, not))
 
 -- WHICH ITEMS ARE WRITTEN
 
-pub packet_written : (earlier : List Item) (origin : Origin) (moment freed : ℕ) (stored : Bool) → is_telling origin ≡ true → is_after_refused_overflow earlier ≡ false
+pub packet_written : (earlier : List Item) (origin : Origin) (moment freed : ℕ) (stored : Bool) → is_call_or_reply origin ≡ true → is_after_refused_overflow earlier ≡ false
     → is_written earlier (made origin moment freed (outcome_if stored)) ≡ true
 packet_written earlier (Call writer step) moment freed true telling ready = ap not ready
 packet_written earlier (Call writer step) moment freed false telling ready = ap not ready
@@ -103,14 +103,14 @@ packet_written earlier (Reply kind index) moment freed false telling ready = ap 
 packet_written earlier (Overflow count) moment freed stored telling ready = refl
 packet_written earlier (Command byte param) moment freed stored telling ready = absurd cc
 
-pub ignored_unwritten : (earlier : List Item) (origin : Origin) (moment freed : ℕ) → is_telling origin ≡ true → is_written earlier (made origin moment freed Ignored) ≡ false
+pub ignored_unwritten : (earlier : List Item) (origin : Origin) (moment freed : ℕ) → is_call_or_reply origin ≡ true → is_written earlier (made origin moment freed Ignored) ≡ false
 ignored_unwritten earlier (Call writer step) moment freed telling = refl
 ignored_unwritten earlier Sync moment freed telling = absurd cc
 ignored_unwritten earlier (Reply kind index) moment freed telling = refl
 ignored_unwritten earlier (Overflow count) moment freed telling = absurd cc
 ignored_unwritten earlier (Command byte param) moment freed telling = absurd cc
 
-pub refused_unwritten : (earlier : List Item) (origin : Origin) (moment freed : ℕ) → is_telling origin ≡ true → is_after_refused_overflow earlier ≡ true → is_written earlier (made origin moment freed Refused) ≡ false
+pub refused_unwritten : (earlier : List Item) (origin : Origin) (moment freed : ℕ) → is_call_or_reply origin ≡ true → is_after_refused_overflow earlier ≡ true → is_written earlier (made origin moment freed Refused) ≡ false
 refused_unwritten earlier (Call writer step) moment freed telling behind = ap not behind
 refused_unwritten earlier Sync moment freed telling behind = absurd cc
 refused_unwritten earlier (Reply kind index) moment freed telling behind = ap not behind

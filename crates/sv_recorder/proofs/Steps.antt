@@ -66,7 +66,7 @@ is_lost i = is_packet i && is_refused i.outcome
 abbrev is_told : Item → Bool
 is_told i = is_overflow i.origin && is_stored i.outcome
 
--- what is pending behind an item
+-- what is pending after an item
 pending_at-cons : (earlier : List Item) (i : Item) → pending_at (i ∷ earlier) ≡ cond (is_told i) 0 (cond (is_lost i) 1 0 + pending_at earlier)
 pending_at-cons earlier i = elim (is_told i) as (λ b. is_told i ≡ b → pending_at (i ∷ earlier) ≡ cond b 0 (cond (is_lost i) 1 0 + pending_at earlier)) [
   | true ↦ λ told. ap (count_by is_lost) (take_while-cons (λ j. not (is_told j)) i earlier ∙ ap (λ b. cond (not b) (i ∷ take_while (λ j. not (is_told j)) earlier) []) told)
@@ -80,7 +80,7 @@ pending_at-refused earlier i other packet refused =
     let lost : is_lost i ≡ true = ap (λ b. b && is_refused i.outcome) packet ∙ refused in
     pending_at-cons earlier i ∙ (ap (λ b. cond b 0 (cond (is_lost i) 1 0 + pending_at earlier)) told ∙ ap (λ b. cond b 1 0 + pending_at earlier) lost)
 
--- nothing is pending behind a stored overflow
+-- nothing is pending after a stored overflow
 pub pending_at-stored_overflow : (earlier : List Item) (i : Item) → is_overflow i.origin ≡ true → is_stored i.outcome ≡ true → pending_at (i ∷ earlier) ≡ 0
 pending_at-stored_overflow earlier i overflow stored =
     let told : is_told i ≡ true = ap (λ b. b && is_stored i.outcome) overflow ∙ stored in
@@ -122,7 +122,7 @@ IsOpen-push load items owed rest i o due other few next = record {
   each = each-push (IsNextItem load) items i o.each next;
 }
 
--- an overflow and the packet behind it go on with an open journal
+-- an overflow and the packet after it go on with an open journal
 pub IsOpen-overflow : (load : Load) (items : List Item) (owed rest : List Origin) (o i : Item)
     → IsOpen load items owed → IsDue load owed i.origin rest → is_overflow o.origin ≡ true → is_overflow i.origin ≡ false
     → count_by (λ j. is_command j.origin) ((items ++ o ∷ []) ++ i ∷ []) ≤ length load.commands
@@ -163,8 +163,8 @@ outcome_at-control load earlier i control = rw control refl
 pub outcome_at-off : (load : Load) (earlier : List Item) (i : Item) → is_control load i.origin ≡ false → is_on load earlier ≡ false → outcome_at load earlier i ≡ Ignored
 outcome_at-off load earlier i control off = rw (control, off) refl
 
-pub outcome_at-behind : (load : Load) (earlier : List Item) (i : Item) → is_control load i.origin ≡ false → is_on load earlier ≡ true → is_after_refused_overflow earlier ≡ true → outcome_at load earlier i ≡ Refused
-outcome_at-behind load earlier i control on behind = rw (control, on, behind) refl
+pub outcome_at-after : (load : Load) (earlier : List Item) (i : Item) → is_control load i.origin ≡ false → is_on load earlier ≡ true → is_after_refused_overflow earlier ≡ true → outcome_at load earlier i ≡ Refused
+outcome_at-after load earlier i control on behind = rw (control, on, behind) refl
 
 pub outcome_at-write : (load : Load) (earlier : List Item) (i : Item) → is_control load i.origin ≡ false → is_on load earlier ≡ true → is_after_refused_overflow earlier ≡ false → outcome_at load earlier i ≡ write_outcome load earlier i
 outcome_at-write load earlier i control on behind = rw (control, on, behind) refl

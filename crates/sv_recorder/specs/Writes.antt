@@ -40,14 +40,14 @@ abbrev pub packet_block : Load → Origin → ℕ → ℕ → List ℕ
 packet_block load origin moment last = spelling_of (event_at load moment origin) ((moment - last) % period load)
 
 -- calls and replies hold packets
-abbrev pub is_telling : Origin → Bool
-is_telling (Call writer step) = true
-is_telling (Reply kind index) = true
-is_telling other = false
+abbrev pub is_call_or_reply : Origin → Bool
+is_call_or_reply (Call writer step) = true
+is_call_or_reply (Reply kind index) = true
+is_call_or_reply other = false
 
 -- a packet that may be recorded next
 pub record IsPacketHere (load : Load) (items : List Item) (owed : List Origin) (origin : Origin) (moment : ℕ) (rest : List Origin) : Type 0 where
-  pub telling : is_telling origin ≡ true
+  pub telling : is_call_or_reply origin ≡ true
   pub control : is_control load origin ≡ false
   pub due : IsDue load owed origin rest
   pub step : IsNextStep load (latest_first items) origin
@@ -55,5 +55,5 @@ pub record IsPacketHere (load : Load) (items : List Item) (owed : List Origin) (
 
 -- a call or a reply whose packet can be formed
 pub record HasPacket (load : Load) (origin : Origin) : Type 0 where
-  pub telling : is_telling origin ≡ true
+  pub telling : is_call_or_reply origin ≡ true
   pub formed : IsFormed load origin

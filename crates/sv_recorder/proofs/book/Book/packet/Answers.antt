@@ -6,8 +6,8 @@ use Rattle.sv_recorder.specs.Formed.{packet_bytes}
 use Rattle.sv_recorder.specs.Items.{latest_first, is_stop_reply}
 use Rattle.sv_recorder.proofs.Entries.{ignored-holds, and-not, headed_one, gains_one}
 use Rattle.sv_recorder.proofs.Freed.{ignored_unwritten}
-use Rattle.sv_recorder.proofs.Going.{goes-note, goes-less}
-use Rattle.sv_recorder.proofs.Recorded.{not_overflow}
+use Rattle.sv_recorder.proofs.Goes.{goes-note, goes-less}
+use Rattle.sv_recorder.proofs.Packets.{not_overflow}
 use Rattle.sv_recorder.proofs.book.Book.packet.Goals as goal
 
 pub returns-then-not-self-clause-kept : goal.returns-then-not-self-clause-kept

@@ -5,8 +5,8 @@ use Rattle.std.proofs.lemmas.List.Folds.{list_all_at}
 use Rattle.sv_recorder.specs.declared.journal.Kind.{Kind}
 use Rattle.sv_recorder.specs.declared.journal.Kind.TheVariants.{TraceStart}
 use Rattle.sv_recorder.specs.Clock.{is_start_kind}
-use Rattle.sv_recorder.proofs.Answering.{start_formed}
-use Rattle.sv_recorder.proofs.Sections.{replied-more}
+use Rattle.sv_recorder.proofs.Groups.{start_formed}
+use Rattle.sv_recorder.proofs.Books.{replied-more}
 use Rattle.sv_recorder.proofs.book.Book.replies.Goals as goal
 
 passes_at : (p : Kind → Bool) (kinds : List Kind) (k : ℕ) (d : Kind) → list_all p kinds ≡ true → k < length kinds → p (get_or kinds k d) ≡ true

@@ -2,9 +2,9 @@ use Rattle.std.proofs.Common.{◌*◌, refl, true, ◌∷◌, []}
 use Rattle.sv_recorder.specs.declared.journal.Origin.TheVariants.{Call}
 use Rattle.sv_recorder.specs.declared.journal.Outcome.TheVariants.{Handled}
 use Rattle.sv_recorder.specs.Formed.{reply_bytes}
-use Rattle.sv_recorder.proofs.Going.{goes-note, goes-then, goes-to}
+use Rattle.sv_recorder.proofs.Goes.{goes-note, goes-then, goes-to}
 use Rattle.sv_recorder.proofs.Entries.{headed_one}
-use Rattle.sv_recorder.proofs.Sections.{start-holds}
+use Rattle.sv_recorder.proofs.Books.{start-holds}
 use Rattle.sv_recorder.proofs.book.Book.start.Goals as goal
 
 pub returns-clause-kept : goal.returns-clause-kept

@@ -1,9 +1,9 @@
 use Rattle.std.proofs.Common.{refl, false, ◌∷◌, []}
 use Rattle.sv_recorder.specs.declared.journal.Origin.TheVariants.{Call}
 use Rattle.sv_recorder.specs.declared.journal.Outcome.TheVariants.{Handled}
-use Rattle.sv_recorder.proofs.Going.{goes-note, goes-then, goes-to}
+use Rattle.sv_recorder.proofs.Goes.{goes-note, goes-then, goes-to}
 use Rattle.sv_recorder.proofs.Entries.{headed_one}
-use Rattle.sv_recorder.proofs.Sections.{stop-holds}
+use Rattle.sv_recorder.proofs.Books.{stop-holds}
 use Rattle.sv_recorder.proofs.book.Book.stop.Goals as goal
 
 pub returns-clause-kept : goal.returns-clause-kept

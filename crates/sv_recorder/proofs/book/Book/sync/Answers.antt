@@ -1,4 +1,4 @@
-use Rattle.sv_recorder.proofs.Sections.{sync-holds, sync-goes}
+use Rattle.sv_recorder.proofs.Books.{sync-holds, sync-goes}
 use Rattle.sv_recorder.proofs.book.Book.sync.Goals as goal
 
 pub returns-clause-kept : goal.returns-clause-kept

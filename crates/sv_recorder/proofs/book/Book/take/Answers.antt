@@ -12,14 +12,14 @@ use Rattle.sv_recorder.specs.Clock.{clock_of}
 use Rattle.sv_recorder.specs.Formed.{packet_bytes, stop_bytes}
 use Rattle.sv_recorder.specs.Legal.{ticks_of}
 use Rattle.sv_recorder.specs.Needs.{start_items, start_bytes, stop_items, step_items, step_bytes}
-use Rattle.sv_recorder.proofs.Answering.{event_owes, handles_start}
-use Rattle.sv_recorder.proofs.Going.{goes-less}
-use Rattle.sv_recorder.proofs.Sections.{ticks_at, act_at}
+use Rattle.sv_recorder.proofs.Groups.{event_owes, handles_start}
+use Rattle.sv_recorder.proofs.Goes.{goes-less}
+use Rattle.sv_recorder.proofs.Books.{ticks_at, act_at}
 use Rattle.sv_recorder.proofs.book.Book.take.Goals as goal
 
--- the clock behind the step's ticks
-clock_behind : (load : Load) (writer place : ℕ) (step : Step) (moment clock : ℕ) → step_of load writer place ≡ Some step → moment ≡ clock → moment + step.advance ≡ ticks_of load (Call writer place) + clock
-clock_behind load writer place step moment clock is same = let ticks = ticks_at load writer place step is in omega (arith, ticks, same)
+-- the clock after the step's ticks
+clock_after : (load : Load) (writer place : ℕ) (step : Step) (moment clock : ℕ) → step_of load writer place ≡ Some step → moment ≡ clock → moment + step.advance ≡ ticks_of load (Call writer place) + clock
+clock_after load writer place step moment clock is same = let ticks = ticks_at load writer place step is in omega (arith, ticks, same)
 
 packet_is : (load : Load) (writer place : ℕ) (act : Act) → act_of load writer place ≡ Some act → packet_bytes load (Call writer place) ≡ act_bytes act
 packet_is load writer place act is = ap (λ a. option_map_or act_bytes a 0) is
@@ -42,7 +42,7 @@ stop_within step is =
 pub returns-in-Event-clause-kept : goal.returns-in-Event-clause-kept
 returns-in-Event-clause-kept g c = λ k next clock.
     let old = c.args.self.now in
-    c.event.ensures.kept k next (clock_behind old.load.now c.args.writer c.args.place c.args.step.now old.moment (clock_of old.load.now old.journal.items) c.requires.step clock)
+    c.event.ensures.kept k next (clock_after old.load.now c.args.writer c.args.place c.args.step.now old.moment (clock_of old.load.now old.journal.items) c.requires.step clock)
 
 pub returns-in-Event-clause-goes : goal.returns-in-Event-clause-goes
 returns-in-Event-clause-goes g c =
@@ -63,7 +63,7 @@ returns-in-Event-clause-answered g c =
 pub returns-in-Start-clause-kept : goal.returns-in-Start-clause-kept
 returns-in-Start-clause-kept g c = λ k next clock.
     let old = c.args.self.now in
-    c.start.ensures.kept k next (clock_behind old.load.now c.args.writer c.args.place c.args.step.now old.moment (clock_of old.load.now old.journal.items) c.requires.step clock)
+    c.start.ensures.kept k next (clock_after old.load.now c.args.writer c.args.place c.args.step.now old.moment (clock_of old.load.now old.journal.items) c.requires.step clock)
 
 pub returns-in-Start-clause-goes : goal.returns-in-Start-clause-goes
 returns-in-Start-clause-goes g c =

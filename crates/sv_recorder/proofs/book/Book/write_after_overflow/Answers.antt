@@ -3,7 +3,7 @@ use Rattle.sv_recorder.specs.declared.journal.Origin.TheVariants.{Overflow}
 use Rattle.sv_recorder.specs.declared.journal.Outcome.TheVariants.{Stored, Refused}
 use Rattle.sv_recorder.specs.Formed.{block_bytes, overflow_bytes}
 use Rattle.sv_recorder.specs.Writes.{made, outcome_if}
-use Rattle.sv_recorder.proofs.Entries.{refused-holds, behind-holds, behind-goes, refused-goes, as_long, ready_after, same_load, same_moment, gains_two, settled_pending}
+use Rattle.sv_recorder.proofs.Entries.{refused-holds, after-holds, after-goes, refused-goes, as_long, ready_after, same_load, same_moment, gains_two, settled_pending}
 use Rattle.sv_recorder.proofs.book.Book.write_after_overflow.Goals as goal
 
 pub returns-then-not-write-clause-kept : goal.returns-then-not-write-clause-kept
@@ -28,7 +28,7 @@ pub returns-clause-kept : goal.returns-clause-kept
 returns-clause-kept g c =
     let u = g.U.UpWriter in
     let w = rw c.if-not-write.false at c.write.ensures.writes in
-    behind-holds u.ring u.size u.limit u.sent u.freed u.way c.args.self.now c.write.new.self c.write-stored.new.self c.settle.new.self c.args.origin c.deref.result.now c.deref-2.result.now c.write-stored.result
+    after-holds u.ring u.size u.limit u.sent u.freed u.way c.args.self.now c.write.new.self c.write-stored.new.self c.settle.new.self c.args.origin c.deref.result.now c.deref-2.result.now c.write-stored.result
     c.write.ensures.stays.rest c.write-stored.ensures.stays.rest c.settle.ensures c.requires.ready.ring c.write.ensures.stays.same.1 c.requires.on c.requires.some w (c.deref.ensures.0 ∙ c.form-block.ensures.block) c.write-stored.ensures.writes
     (c.deref-2.ensures.0 ∙ (rw (same_load c.args.self.now c.write.new.self c.write.ensures.stays.rest, same_moment c.args.self.now c.write.new.self c.write.ensures.stays.rest) at c.form-block-2.ensures.block))
 
@@ -39,7 +39,7 @@ returns-clause-records g c =
     let m = rw c.if-not-write.false at c.write.ensures.moves in
     let old = c.args.self.now in
     record {
-      goes = behind-goes u.ring u.size u.limit u.sent u.freed u.way c.args.self.now c.write.new.self c.write-stored.new.self c.settle.new.self c.args.origin c.deref.result.now c.deref-2.result.now c.write-stored.result _
+      goes = after-goes u.ring u.size u.limit u.sent u.freed u.way c.args.self.now c.write.new.self c.write-stored.new.self c.settle.new.self c.args.origin c.deref.result.now c.deref-2.result.now c.write-stored.result _
           c.write.ensures.stays.rest c.write-stored.ensures.stays.rest c.settle.ensures c.requires.ready.ring c.write.ensures.stays.same c.write-stored.ensures.stays.same c.write.ensures.stays.capacity c.write-stored.ensures.stays.capacity w c.write-stored.ensures.writes m c.write-stored.ensures.moves
           (c.deref.ensures.0 ∙ c.form-block.ensures.block)
           (c.deref-2.ensures.0 ∙ (rw (same_load c.args.self.now c.write.new.self c.write.ensures.stays.rest, same_moment c.args.self.now c.write.new.self c.write.ensures.stays.rest) at c.form-block-2.ensures.block))

@@ -16,7 +16,7 @@ use Rattle.sv_recorder.specs.Needs.{step_items, step_bytes}
 use Rattle.sv_recorder.specs.Book.{Holds, Goes, IsReady}
 use Rattle.sv_recorder.specs.Section.{IsSection}
 use Rattle.sv_recorder.specs.Recording.{Recording, IsRecorder}
-use Rattle.sv_recorder.proofs.Between.{only_writer, needs_at, pending_few, taken, section_of, script_short}
+use Rattle.sv_recorder.proofs.Recorders.{only_writer, needs_at, pending_few, taken, section_of, script_short}
 
 got : (steps : List Step) (place : ℕ) (d : Step) → place < length steps → slice_get steps place ≡ Some (slice_index_or steps place d)
 got [] place d within = absurd (omega (arith, within))

@@ -13,7 +13,7 @@ use Rattle.sv_recorder.specs.Stream.{stream_of}
 use Rattle.sv_recorder.specs.Open.{IsOpen, IsDue}
 use Rattle.sv_recorder.specs.Kept.{Keeps}
 use Rattle.sv_recorder.proofs.Steps.{latest_first-push, stream_of-push, IsOpen-push, IsOpen-overflow, pending_at-refused, pending_at-other, last_moment-stored, last_moment-other, is_on-start, is_on-other, is_on-told, is_on-off}
-use Rattle.sv_recorder.proofs.Next.{Stands, next-plain, next-overflow, next-behind, overflow_item}
+use Rattle.sv_recorder.proofs.Next.{Stands, next-plain, next-overflow, next-after, overflow_item}
 
 -- the bytes that an item adds to the stream
 abbrev pub added : Load → List Item → Item → List ℕ
@@ -143,8 +143,8 @@ keeps-stored load items owed rest sent freed last i freed_now now k comes stored
     let last_now : last_moment (i ∷ earlier) ≡ i.moment = last_moment-stored earlier i kept sync in
     moved load (items ++ i ∷ []) rest now freed_now _ _ _ _ _ _ on_now pending_now last_now whole
 
--- an overflow with the count of what is pending, and the packet behind it
-pub keeps-behind : (load : Load) (items : List Item) (owed rest : List Origin) (sent : List ℕ) (freed pending last moment between : ℕ) (outcome : Outcome) (i : Item) (sent_between now : List ℕ) (freed_now : ℕ)
+-- an overflow with the count of what is pending, and the packet after it
+pub keeps-after : (load : Load) (items : List Item) (owed rest : List Origin) (sent : List ℕ) (freed pending last moment between : ℕ) (outcome : Outcome) (i : Item) (sent_between now : List ℕ) (freed_now : ℕ)
     → Keeps load items owed sent freed true pending last → 0 < pending
     → freed ≤ between → between ≤ length sent
     → outcome ≡ write_outcome load (latest_first items) (overflow_item pending moment between outcome)
@@ -157,13 +157,13 @@ pub keeps-behind : (load : Load) (items : List Item) (owed rest : List Origin) (
     (is_on load (i ∷ overflow_item pending moment between outcome ∷ latest_first items))
     (pending_at (i ∷ overflow_item pending moment between outcome ∷ latest_first items))
     (last_moment (i ∷ overflow_item pending moment between outcome ∷ latest_first items))
-keeps-behind load items owed rest sent freed pending last moment between outcome i sent_between now freed_now k above low high written grown stands packet same due few grown_now low_now high_now =
+keeps-after load items owed rest sent freed pending last moment between outcome i sent_between now freed_now k above low high written grown stands packet same due few grown_now low_now high_now =
     let earlier : List Item = latest_first items in
     let o : Item = overflow_item pending moment between outcome in
     let length_sent : length sent ≡ stored_before load earlier = ap length k.sent_is in
     let next : IsNextItem load earlier o = next-overflow load earlier pending moment between outcome k.pending_is k.opened.ends (sym k.on_is) (le_trans k.freed_rises low) (omega arith) written in
     let owes : owes_overflow load earlier i ≡ true = owed_here load earlier i packet (sym k.on_is) k.pending_is above in
-    let behind : IsNextItem load (o ∷ earlier) i = next-behind load earlier o i refl stands same owes in
+    let behind : IsNextItem load (o ∷ earlier) i = next-after load earlier o i refl stands same owes in
     let pushed : IsOpen load ((items ++ o ∷ []) ++ i ∷ []) rest = IsOpen-overflow load items owed rest o i k.opened due refl stands.other few next behind in
     let looked : latest_first ((items ++ o ∷ []) ++ i ∷ []) ≡ i ∷ o ∷ earlier = latest_first-push (items ++ o ∷ []) i ∙ ap (λ es. i ∷ es) (latest_first-push items o) in
     let once : stream_of load (items ++ o ∷ []) ≡ stream_of load items ++ added load earlier o = stream_of-push load items o in

@@ -1,4 +1,4 @@
--- A packet behind an overflow keeps what the recorder keeps.
+-- A packet after an overflow keeps what the recorder keeps.
 use Rattle.std.proofs.Common.{◌≡◌, ℕ, ◌+◌, ◌<◌, ◌≤◌, Bool, true, false, not, cond, List, [], ◌∷◌, ◌++◌, length, length-append, refl, sym, ap, ◌∙◌, subst, arith, append-nil, replicate}
 use Rattle.std.specs.Prelude.{count_by, sum_by, nat_lt, if◌then◌else◌}
 use Rattle.std.proofs.lemmas.List.Sums.{sum_by-cons}
@@ -12,11 +12,11 @@ use Rattle.sv_recorder.specs.Items.{latest_first, is_call_of, is_packet, is_sync
 use Rattle.sv_recorder.specs.Legal.{IsNextStep, write_outcome, ticks_of, outcome_at}
 use Rattle.sv_recorder.specs.Kept.{Keeps}
 use Rattle.sv_ring.specs.Ring.{room_of}
-use Rattle.sv_recorder.proofs.Steps.{outcome_at-behind, outcome_at-write, is_on-told, pending_at-refused, pending_at-other, pending_at-stored_overflow, last_moment-stored, last_moment-other, stored_before-le}
+use Rattle.sv_recorder.proofs.Steps.{outcome_at-after, outcome_at-write, is_on-told, pending_at-refused, pending_at-other, pending_at-stored_overflow, last_moment-stored, last_moment-other, stored_before-le}
 use Rattle.sv_recorder.proofs.Next.{Stands, overflow_item}
-use Rattle.sv_recorder.proofs.Kept.{keeps-behind, added, moved, no_overflow, not_refused}
-use Rattle.sv_recorder.specs.Writes.{Writes, made, outcome_if, packet_block, is_telling, IsPacketHere}
-use Rattle.sv_recorder.proofs.Recorded.{not_sync, not_overflow, not_command, not_start, in_place, refused_packet, few_more, turned}
+use Rattle.sv_recorder.proofs.Items.{keeps-after, added, moved, no_overflow, not_refused}
+use Rattle.sv_recorder.specs.Writes.{Writes, made, outcome_if, packet_block, is_call_or_reply, IsPacketHere}
+use Rattle.sv_recorder.proofs.Packets.{not_sync, not_overflow, not_command, not_start, in_place, refused_packet, few_more, turned}
 
 -- what the ring decides of a block is what becomes of its item
 decided : (load : Load) (earlier : List Item) (sent now : List ℕ) (freed freed_now last : ℕ) (origin : Origin) (moment : ℕ) (stored : Bool) (items after : List Item)
@@ -35,30 +35,30 @@ decided load earlier sent now freed freed_now last origin moment stored items af
     ap outcome_if w.decided ∙ (turned (nat_lt (room_of load.ring sent freed_now) (length block)) ∙ sym written)
 
 -- an overflow is no call, so the step is still the next one
-step_behind : (load : Load) (earlier : List Item) (origin : Origin) (count moment freed : ℕ) (outcome : Outcome) → IsNextStep load earlier origin → IsNextStep load (overflow_item count moment freed outcome ∷ earlier) origin
-step_behind load earlier (Call writer step) count moment freed outcome h =
+step_after : (load : Load) (earlier : List Item) (origin : Origin) (count moment freed : ℕ) (outcome : Outcome) → IsNextStep load earlier origin → IsNextStep load (overflow_item count moment freed outcome ∷ earlier) origin
+step_after load earlier (Call writer step) count moment freed outcome h =
     (h.0 ∙ sym (sum_by-cons (λ (j : Item). cond (is_call_of writer j.origin) 1 0) (overflow_item count moment freed outcome) earlier ∙ none_more (count_by (λ j. is_call_of writer j.origin) earlier)), h.1) where
       none_more : (n : ℕ) → 0 + n ≡ n
       none_more n = omega arith
-step_behind load earlier Sync count moment freed outcome h = tt
-step_behind load earlier (Reply kind index) count moment freed outcome h = tt
-step_behind load earlier (Overflow other) count moment freed outcome h = tt
-step_behind load earlier (Command byte param) count moment freed outcome h = tt
+step_after load earlier Sync count moment freed outcome h = tt
+step_after load earlier (Reply kind index) count moment freed outcome h = tt
+step_after load earlier (Overflow other) count moment freed outcome h = tt
+step_after load earlier (Command byte param) count moment freed outcome h = tt
 
--- the place of a packet behind an overflow
-stands_behind : (load : Load) (items : List Item) (owed rest : List Origin) (sent : List ℕ) (freed pending last count moment between freed_now : ℕ) (origin : Origin) (told outcome : Outcome)
+-- the place of a packet after an overflow
+stands_after : (load : Load) (items : List Item) (owed rest : List Origin) (sent : List ℕ) (freed pending last count moment between freed_now : ℕ) (origin : Origin) (told outcome : Outcome)
     → Keeps load items owed sent freed true pending last → IsPacketHere load items owed origin moment rest
     → between ≤ freed_now → freed_now ≤ stored_before load (overflow_item count moment between told ∷ latest_first items)
     → outcome ≡ outcome_at load (overflow_item count moment between told ∷ latest_first items) (made origin moment freed_now outcome)
     → Stands load (overflow_item count moment between told ∷ latest_first items) (made origin moment freed_now outcome)
-stands_behind load items owed rest sent freed pending last count moment between freed_now origin told outcome k p low high becomes =
+stands_after load items owed rest sent freed pending last count moment between freed_now origin told outcome k p low high becomes =
     let earlier : List Item = latest_first items in
     let o : Item = overflow_item count moment between told in
     let i : Item = made origin moment freed_now outcome in
     record {
       other = not_overflow origin p.telling;
       command = in_place (o ∷ earlier) origin p.telling;
-      step = step_behind load earlier origin count moment between told p.step;
+      step = step_after load earlier origin count moment between told p.step;
       moment = p.ticks ∙ sym (sum_by-cons (λ (j : Item). ticks_of load j.origin) i (o ∷ earlier) ∙ ap (λ n. ticks_of load origin + n) (sum_by-cons (λ (j : Item). ticks_of load j.origin) o earlier ∙ none_more (sum_by (λ j. ticks_of load j.origin) earlier)));
       freed_rises = low;
       freed_stored = high;
@@ -68,12 +68,12 @@ stands_behind load items owed rest sent freed pending last count moment between 
       none_more n = omega arith
 
 -- the overflow is refused, and the packet with it
-pub packet-behind_refused : (load : Load) (items between after : List Item) (owed rest : List Origin) (sent now : List ℕ) (freed freed_now pending last : ℕ) (origin : Origin) (moment : ℕ)
+pub packet-after_refused : (load : Load) (items between after : List Item) (owed rest : List Origin) (sent now : List ℕ) (freed freed_now pending last : ℕ) (origin : Origin) (moment : ℕ)
     → Keeps load items owed sent freed true pending last → 0 < pending → IsPacketHere load items owed origin moment rest
     → Writes load.ring items between sent now freed freed_now (Overflow pending) moment (packet_block load (Overflow pending) moment last) false
     → after ≡ between ++ made origin moment freed_now Refused ∷ []
     → Keeps load after rest now freed_now (not (is_stop_reply origin)) (1 + pending) last
-packet-behind_refused load items between after owed rest sent now freed freed_now pending last origin moment k above p w grown =
+packet-after_refused load items between after owed rest sent now freed freed_now pending last origin moment k above p w grown =
     let earlier : List Item = latest_first items in
     let o : Item = overflow_item pending moment freed_now Refused in
     let i : Item = made origin moment freed_now Refused in
@@ -81,9 +81,9 @@ packet-behind_refused load items between after owed rest sent now freed freed_no
     let length_sent : length sent ≡ stored_before load earlier = ap length k.sent_is in
     let length_now : length now ≡ length sent = ap length same in
     let more : stored_before load earlier ≤ stored_before load (o ∷ earlier) = stored_before-le load earlier o in
-    let stands : Stands load (o ∷ earlier) i = stands_behind load items owed rest sent freed pending last pending moment freed_now freed_now origin Refused Refused k p (omega arith) (reached w.within length_sent more)
-    (sym (outcome_at-behind load (o ∷ earlier) i p.control (sym k.on_is) refl)) in
-    let whole = keeps-behind load items owed rest sent freed pending last moment freed_now Refused i now now freed_now k above w.rises w.within
+    let stands : Stands load (o ∷ earlier) i = stands_after load items owed rest sent freed pending last pending moment freed_now freed_now origin Refused Refused k p (omega arith) (reached w.within length_sent more)
+    (sym (outcome_at-after load (o ∷ earlier) i p.control (sym k.on_is) refl)) in
+    let whole = keeps-after load items owed rest sent freed pending last moment freed_now Refused i now now freed_now k above w.rises w.within
     (decided load earlier sent now freed freed_now last (Overflow pending) moment false items between k.sent_is k.last_is refl w)
     (same ∙ sym (append-nil sent)) stands (refused_packet origin moment freed_now p.telling) refl p.due
     (few_more load (items ++ o ∷ []) i (not_command origin p.telling) (few_more load items o refl k.opened.commands))
@@ -102,12 +102,12 @@ packet-behind_refused load items between after owed rest sent now freed freed_no
     reach q r = omega arith
 
 -- the overflow is stored, and then the packet is written as if nothing were pending
-pub packet-behind_stored : (load : Load) (items between after : List Item) (owed rest : List Origin) (sent sent_between now : List ℕ) (freed freed_between freed_now pending last : ℕ) (origin : Origin) (moment : ℕ) (stored : Bool)
+pub packet-after_stored : (load : Load) (items between after : List Item) (owed rest : List Origin) (sent sent_between now : List ℕ) (freed freed_between freed_now pending last : ℕ) (origin : Origin) (moment : ℕ) (stored : Bool)
     → Keeps load items owed sent freed true pending last → 0 < pending → IsPacketHere load items owed origin moment rest
     → Writes load.ring items between sent sent_between freed freed_between (Overflow pending) moment (packet_block load (Overflow pending) moment last) true
     → Writes load.ring between after sent_between now freed_between freed_now origin moment (packet_block load origin moment moment) stored
     → Keeps load after rest now freed_now (not (is_stop_reply origin)) (if stored then 0 else 1) moment
-packet-behind_stored load items between after owed rest sent sent_between now freed freed_between freed_now pending last origin moment stored k above p v w =
+packet-after_stored load items between after owed rest sent sent_between now freed freed_between freed_now pending last origin moment stored k above p v w =
     let earlier : List Item = latest_first items in
     let o : Item = overflow_item pending moment freed_between Stored in
     let i : Item = made origin moment freed_now (outcome_if stored) in
@@ -115,11 +115,11 @@ packet-behind_stored load items between after owed rest sent sent_between now fr
     v.grown ∙ (ap (λ bs. bs ++ packet_block load (Overflow pending) moment last) k.sent_is ∙ ap (λ m. stream_before load earlier ++ packet_block load (Overflow pending) moment m) k.last_is) in
     let length_here : length sent_between ≡ stored_before load (o ∷ earlier) = ap length here in
     let writes : outcome_if stored ≡ write_outcome load (o ∷ earlier) i = decided load (o ∷ earlier) sent_between now freed_between freed_now moment origin moment stored between after here refl (not_sync origin p.telling) w in
-    let stands : Stands load (o ∷ earlier) i = stands_behind load items owed rest sent freed pending last pending moment freed_between freed_now origin Stored (outcome_if stored) k p w.rises (reach w.within length_here)
+    let stands : Stands load (o ∷ earlier) i = stands_after load items owed rest sent freed pending last pending moment freed_between freed_now origin Stored (outcome_if stored) k p w.rises (reach w.within length_here)
     (writes ∙ sym (outcome_at-write load (o ∷ earlier) i p.control (sym k.on_is) refl)) in
     let block_is : added load (o ∷ earlier) i ≡ (if stored then packet_block load origin moment moment else []) = added_is load (o ∷ earlier) origin moment freed_now stored p.telling in
     let length_grown : length sent_between ≤ length now = longer sent_between now (if stored then packet_block load origin moment moment else []) w.grown in
-    let whole = keeps-behind load items owed rest sent freed pending last moment freed_between Stored i sent_between now freed_now k above v.rises v.within
+    let whole = keeps-after load items owed rest sent freed pending last moment freed_between Stored i sent_between now freed_now k above v.rises v.within
     (decided load earlier sent sent_between freed freed_between last (Overflow pending) moment true items between k.sent_is k.last_is refl v)
     (here ∙ ap (λ bs. bs ++ added load earlier o) (sym k.sent_is)) stands (packet_of origin moment freed_now stored p.telling) refl p.due
     (few_more load (items ++ o ∷ []) i (not_command origin p.telling) (few_more load items o refl k.opened.commands))
@@ -139,12 +139,12 @@ packet-behind_stored load items between after owed rest sent sent_between now fr
     longer : (xs zs ys : List ℕ) → zs ≡ xs ++ ys → length xs ≤ length zs
     longer xs zs ys e = omega (arith, ap length e ∙ length-append xs ys)
 
-    added_is : (load : Load) (es : List Item) (origin : Origin) (moment freed : ℕ) (stored : Bool) → is_telling origin ≡ true
+    added_is : (load : Load) (es : List Item) (origin : Origin) (moment freed : ℕ) (stored : Bool) → is_call_or_reply origin ≡ true
         → added load es (made origin moment freed (outcome_if stored)) ≡ (if stored then packet_block load origin moment (last_moment es) else [])
     added_is load es origin moment freed true t = ap (λ b. cond b (replicate 10 0) (packet_block load origin moment (last_moment es))) (not_sync origin t)
     added_is load es origin moment freed false t = refl
 
-    packet_of : (origin : Origin) (moment freed : ℕ) (stored : Bool) → is_telling origin ≡ true → is_packet (made origin moment freed (outcome_if stored)) ≡ true
+    packet_of : (origin : Origin) (moment freed : ℕ) (stored : Bool) → is_call_or_reply origin ≡ true → is_packet (made origin moment freed (outcome_if stored)) ≡ true
     packet_of (Call writer step) moment freed true t = refl
     packet_of (Call writer step) moment freed false t = refl
     packet_of Sync moment freed stored t = cc
@@ -152,10 +152,10 @@ packet-behind_stored load items between after owed rest sent sent_between now fr
     packet_of (Overflow count) moment freed stored t = cc
     packet_of (Command byte param) moment freed stored t = cc
 
-    pending_of : (es : List Item) (origin : Origin) (moment freed : ℕ) (stored : Bool) → is_telling origin ≡ true → pending_at es ≡ 0 → pending_at (made origin moment freed (outcome_if stored) ∷ es) ≡ (if stored then 0 else 1)
+    pending_of : (es : List Item) (origin : Origin) (moment freed : ℕ) (stored : Bool) → is_call_or_reply origin ≡ true → pending_at es ≡ 0 → pending_at (made origin moment freed (outcome_if stored) ∷ es) ≡ (if stored then 0 else 1)
     pending_of es origin moment freed true t none = pending_at-other es (made origin moment freed Stored) (no_overflow (made origin moment freed Stored) (not_overflow origin t)) (not_refused (made origin moment freed Stored) refl) ∙ none
     pending_of es origin moment freed false t none = pending_at-refused es (made origin moment freed Refused) (not_overflow origin t) (refused_packet origin moment freed t) refl ∙ ap (λ n. 1 + n) none
 
-    last_of : (es : List Item) (origin : Origin) (moment freed : ℕ) (stored : Bool) → is_telling origin ≡ true → last_moment es ≡ moment → last_moment (made origin moment freed (outcome_if stored) ∷ es) ≡ moment
+    last_of : (es : List Item) (origin : Origin) (moment freed : ℕ) (stored : Bool) → is_call_or_reply origin ≡ true → last_moment es ≡ moment → last_moment (made origin moment freed (outcome_if stored) ∷ es) ≡ moment
     last_of es origin moment freed true t same = last_moment-stored es (made origin moment freed Stored) refl (not_sync origin t)
     last_of es origin moment freed false t same = last_moment-other es (made origin moment freed Refused) refl ∙ same

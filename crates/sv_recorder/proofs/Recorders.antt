@@ -22,10 +22,10 @@ use Rattle.sv_recorder.specs.Needs.{start_items, stop_items, start_need, step_it
 use Rattle.sv_recorder.specs.Book.{Holds, Goes}
 use Rattle.sv_recorder.specs.Section.{IsSection}
 use Rattle.sv_recorder.specs.Recording.{IsRecorder}
-use Rattle.sv_recorder.proofs.Going.{sum_latest, calls_heads, clock-goes}
+use Rattle.sv_recorder.proofs.Goes.{sum_latest, calls_heads, clock-goes}
 use Rattle.sv_recorder.proofs.Next.{after_refused-fresh}
 use Rattle.sv_recorder.proofs.Scripts.{one_script}
-use Rattle.sv_recorder.proofs.Sections.{ticks_at}
+use Rattle.sv_recorder.proofs.Books.{ticks_at}
 
 -- there is one writer
 pub only_writer : (load : Load) (writer : ℕ) → IsPlain load → writer < length load.scripts → writer ≡ 0
@@ -41,7 +41,7 @@ take_while_short p items = omega (arith, length-take (prefix_len p items) items)
 pub pending_few : (items : List Item) → pending_at (latest_first items) ≤ length items
 pending_few items = omega (arith, count_by-le-length {X = Item}, take_while_short, length-reverse items)
 
--- the step at a place, and those behind it
+-- the step at a place, and those after it
 drop_next : (steps : List Step) (place : ℕ) (step : Step) → slice_get steps place ≡ Some step → drop place steps ≡ step ∷ drop (suc place) steps
 drop_next [] place step is = absurd cc
 drop_next (s ∷ steps) zero step is = let same : s ≡ step = cc in cc

@@ -24,8 +24,8 @@ use Rattle.sv_recorder.specs.Formed.{IsFormed, packet_bytes, reply_bytes}
 use Rattle.sv_recorder.specs.Writes.{Writes, made, outcome_if, IsPacketHere}
 use Rattle.sv_recorder.proofs.Steps.{outcome_at-control, outcome_at-write}
 use Rattle.sv_recorder.proofs.Next.{after_refused-fresh}
-use Rattle.sv_recorder.proofs.Kept.{Comes, keeps-handled, keeps-sync, added}
-use Rattle.sv_recorder.proofs.Recorded.{few_more, turned}
+use Rattle.sv_recorder.proofs.Items.{Comes, keeps-handled, keeps-sync, added}
+use Rattle.sv_recorder.proofs.Packets.{few_more, turned}
 
 -- a step that is handled
 pub handled : (load : Load) (items : List Item) (sent : List ℕ) (freed : ℕ) (on : Bool) (pending last writer step moment : ℕ)

@@ -14,38 +14,38 @@ use Rattle.sv_recorder.specs.Kept.{Keeps}
 use Rattle.sv_ring.specs.Ring.{room_of}
 use Rattle.sv_recorder.proofs.Steps.{outcome_at-off, outcome_at-write}
 use Rattle.sv_recorder.proofs.Next.{after_refused-fresh}
-use Rattle.sv_recorder.proofs.Kept.{Comes, keeps-ignored, keeps-refused, keeps-stored}
-use Rattle.sv_recorder.specs.Writes.{Writes, made, outcome_if, packet_block, is_telling, IsPacketHere}
+use Rattle.sv_recorder.proofs.Items.{Comes, keeps-ignored, keeps-refused, keeps-stored}
+use Rattle.sv_recorder.specs.Writes.{Writes, made, outcome_if, packet_block, is_call_or_reply, IsPacketHere}
 
-pub not_sync : (o : Origin) → is_telling o ≡ true → is_sync o ≡ false
+pub not_sync : (o : Origin) → is_call_or_reply o ≡ true → is_sync o ≡ false
 not_sync (Call writer step) t = refl
 not_sync Sync t = cc
 not_sync (Reply kind index) t = refl
 not_sync (Overflow count) t = cc
 not_sync (Command byte param) t = cc
 
-pub not_overflow : (o : Origin) → is_telling o ≡ true → is_overflow o ≡ false
+pub not_overflow : (o : Origin) → is_call_or_reply o ≡ true → is_overflow o ≡ false
 not_overflow (Call writer step) t = refl
 not_overflow Sync t = cc
 not_overflow (Reply kind index) t = refl
 not_overflow (Overflow count) t = cc
 not_overflow (Command byte param) t = cc
 
-pub not_command : (o : Origin) → is_telling o ≡ true → is_command o ≡ false
+pub not_command : (o : Origin) → is_call_or_reply o ≡ true → is_command o ≡ false
 not_command (Call writer step) t = refl
 not_command Sync t = cc
 not_command (Reply kind index) t = refl
 not_command (Overflow count) t = cc
 not_command (Command byte param) t = cc
 
-pub refused_packet : (o : Origin) (moment freed : ℕ) → is_telling o ≡ true → is_packet (made o moment freed Refused) ≡ true
+pub refused_packet : (o : Origin) (moment freed : ℕ) → is_call_or_reply o ≡ true → is_packet (made o moment freed Refused) ≡ true
 refused_packet (Call writer step) moment freed t = refl
 refused_packet Sync moment freed t = cc
 refused_packet (Reply kind index) moment freed t = refl
 refused_packet (Overflow count) moment freed t = cc
 refused_packet (Command byte param) moment freed t = cc
 
-pub in_place : (earlier : List Item) (o : Origin) → is_telling o ≡ true → IsCommandInPlace earlier o
+pub in_place : (earlier : List Item) (o : Origin) → is_call_or_reply o ≡ true → IsCommandInPlace earlier o
 in_place earlier (Call writer step) t = tt
 in_place earlier Sync t = tt
 in_place earlier (Reply kind index) t = tt
@@ -106,7 +106,7 @@ packet-off load items after owed rest sent freed pending last origin moment k p 
     (keeps-ignored load items owed rest sent freed pending last i k here refl (not_start load origin p.control) refl)
 
 -- the block is that of the item
-pub block_here : (load : Load) (earlier : List Item) (origin : Origin) (moment freed last : ℕ) (outcome : Outcome) → is_telling origin ≡ true → last ≡ last_moment earlier
+pub block_here : (load : Load) (earlier : List Item) (origin : Origin) (moment freed last : ℕ) (outcome : Outcome) → is_call_or_reply origin ≡ true → last ≡ last_moment earlier
     → block_of load earlier (made origin moment freed outcome) ≡ packet_block load origin moment last
 block_here load earlier origin moment freed last outcome telling same =
     ap (λ b. cond b (replicate 10 0) (packet_block load origin moment (last_moment earlier))) (not_sync origin telling)

@@ -26,8 +26,8 @@ use Rattle.sv_recorder.specs.Writes.{Writes, MovesBy, made, outcome_if, IsPacket
 use Rattle.sv_recorder.specs.Book.{Holds, HoldsAs, Goes}
 use Rattle.sv_recorder.proofs.Entries.{stored_length, same_load, same_moment, write-moved}
 use Rattle.sv_recorder.proofs.Steps.{latest_first-push, last_moment-other}
-use Rattle.sv_recorder.proofs.Going.{goes-then, clock-goes}
-use Rattle.sv_recorder.proofs.Answering.{handled, synced, reply_here, no_stop, start_owes, stop_owes, event_owes}
+use Rattle.sv_recorder.proofs.Goes.{goes-then, clock-goes}
+use Rattle.sv_recorder.proofs.Groups.{handled, synced, reply_here, no_stop, start_owes, stop_owes, event_owes}
 
 module _ {U : Type 0} (ring : U → List (List ℕ)) (size limit : U → ℕ) (sent : U → List ℕ) (freed : U → ℕ) (way : U → Way) where
   pub sync-goes : (old new : Book U) (stored : Bool)

@@ -22,18 +22,15 @@ keeps_nothing load = record {
   freed_stored = omega arith;
 }
 
-nothing : (load : Load) (size limit capacity : ℕ) → IsPlain load → IsWithinLimits load → size ≡ load.ring → need_bytes load ≤ limit → need_items load < 3400000 → need_items load ≤ capacity
-    → IsRecorder load [] [] 0 size limit false 0 0 0 0 capacity
-nothing load size limit capacity plain limits ring bytes few room =
+nothing : (load : Load) (limit capacity : ℕ) → IsPlain load → IsWithinLimits load → need_bytes load ≤ limit → need_items load < 3400000 → need_items load ≤ capacity
+    → IsRecorder load [] [] 0 limit false 0 0 0 0 capacity
+nothing load limit capacity plain limits bytes few room =
     let items : items_for (script_of load 0) ≡ need_items load = items_needed load plain in
     let short : bytes_for (script_of load 0) ≤ need_bytes load = bytes_needed load plain in
     record {
-      plain = plain;
       limits = limits;
       held = keeps_nothing load;
-      ring = ring;
       clock = refl;
-      later = omega arith;
       place_is = refl;
       within = omega arith;
       room = omega (arith, items, room);
@@ -42,13 +39,13 @@ nothing load size limit capacity plain limits ring bytes few room =
       ticks = let t : ticks_for (script_of load 0) ≤ 2 ^ 60 = ticks_needed load plain limits in omega (arith, t);
     }
 
-pub fresh : (load : Load) (items : List Item) (sent : List ℕ) (freed size limit capacity : ℕ) → IsPlain load → IsWithinLimits load → items ≡ [] → sent ≡ [] → freed ≡ 0
-    → size ≡ load.ring → need_bytes load ≤ limit → need_items load < 3400000 → need_items load ≤ capacity
-    → IsRecorder load items sent freed size limit false 0 0 0 0 capacity
-fresh load items sent freed size limit capacity plain limits items_is sent_is freed_is ring bytes few room =
-    subst (λ (i : List Item). IsRecorder load i sent freed size limit false 0 0 0 0 capacity) (sym items_is)
-    (subst (λ (s : List ℕ). IsRecorder load [] s freed size limit false 0 0 0 0 capacity) (sym sent_is)
-    (subst (λ (n : ℕ). IsRecorder load [] [] n size limit false 0 0 0 0 capacity) (sym freed_is) (nothing load size limit capacity plain limits ring bytes few room)))
+pub fresh : (load : Load) (items : List Item) (sent : List ℕ) (freed limit capacity : ℕ) → IsPlain load → IsWithinLimits load → items ≡ [] → sent ≡ [] → freed ≡ 0
+    → need_bytes load ≤ limit → need_items load < 3400000 → need_items load ≤ capacity
+    → IsRecorder load items sent freed limit false 0 0 0 0 capacity
+fresh load items sent freed limit capacity plain limits items_is sent_is freed_is bytes few room =
+    subst (λ (i : List Item). IsRecorder load i sent freed limit false 0 0 0 0 capacity) (sym items_is)
+    (subst (λ (s : List ℕ). IsRecorder load [] s freed limit false 0 0 0 0 capacity) (sym sent_is)
+    (subst (λ (n : ℕ). IsRecorder load [] [] n limit false 0 0 0 0 capacity) (sym freed_is) (nothing load limit capacity plain limits bytes few room)))
 
 -- a workload of one writer is plain, where it has no task and nothing that only words of later would say
 pub plain_of : (load : Load) → SaysNothingOfLater load → length load.scripts ≡ 1 → length load.tasks ≡ 0 → IsPlain load

@@ -4,6 +4,7 @@ use Rattle.std.specs.Prelude.{filter, map, sum_by, count_by}
 use Rattle.std.proofs.lemmas.List.{length-append, append-nil, map-append}
 use Rattle.std.proofs.lemmas.List.Elements.{filter-append}
 use Rattle.std.proofs.lemmas.List.Sums.{sum_by-cons}
+use Rattle.sv_ring.specs.declared.up_writer.UpWriter.{Ghosts}
 use Rattle.sv_ring.specs.Ring.{Way}
 use Rattle.sv_workload.specs.Load.{Load}
 use Rattle.sv_recorder.specs.declared.book.Book.{Book}
@@ -14,7 +15,7 @@ use Rattle.sv_recorder.specs.declared.journal.Item.{Item}
 use Rattle.sv_recorder.specs.Freed.{AreFreed}
 use Rattle.sv_recorder.specs.Items.{latest_first, last_moment, is_call_of, is_overflow, is_stored, is_refused, is_sync, is_written, is_after_refused_overflow}
 use Rattle.sv_recorder.specs.Legal.{is_head, origins_of, ticks_of}
-use Rattle.sv_recorder.specs.Book.{Goes, head_if}
+use Rattle.sv_recorder.specs.Book.{Goes, Stays, head_if}
 use Rattle.sv_recorder.specs.Stream.{stream_of}
 use Rattle.sv_recorder.specs.Clock.{clock_of}
 use Rattle.sv_recorder.specs.Writes.{made}
@@ -63,34 +64,9 @@ sum_latest f items (i ∷ more) =
     let here = sum_by-cons f i more in
     ap (λ (k : List Item). sum_by f (latest_first k)) regrouped ∙ omega (arith, first, others, here)
 
-module _ {U : Type 0} (ring : U → List (List ℕ)) (size limit : U → ℕ) (sent : U → List ℕ) (freed : U → ℕ) (way : U → Way) where
-  pub goes-none : (old new : Book U) → new.load.now ≡ old.load.now → new.moment ≡ old.moment → new.up ≡ old.up → new.journal ≡ old.journal → new.last ≡ old.last → new.pending ≡ old.pending → Goes ring size limit sent freed way [] 0 0 old new
-  goes-none old new load moment up items last pending = record {
-    load = load;
-    moment = moment;
-    ring_same = ap ring up;
-    size_same = ap size up;
-    limit_same = ap limit up;
-    capacity = ap vec_capacity items;
-    more = [];
-    added = ap (λ v. v.items) items ∙ sym (append-nil old.journal.items);
-    headed = refl;
-    few = omega arith;
-    short = omega (arith, ap (λ u. length (sent u)) up);
-    pending = omega (arith, pending);
-    later = λ before. omega (arith, before, last, moment);
-    moved = λ s. (
-      record {
-        stream = ap sent up ∙ s.stream ∙ sym (ap (λ (l : Load). stream_of l new.journal.items) load ∙ ap (λ v. stream_of old.load.now v.items) items);
-        last = last ∙ s.last ∙ sym (ap (λ v. last_moment (latest_first v.items)) items);
-        ready = ap (λ v. is_after_refused_overflow (latest_first v.items)) items ∙ s.ready;
-      },
-      (ap way up, ap freed up),
-    );
-  }
-
-  pub goes-then : (old mid new : Book U) (h k : List Origin) (m n a b : ℕ) → Goes ring size limit sent freed way h m a old mid → Goes ring size limit sent freed way k n b mid new
-      → Goes ring size limit sent freed way (h ++ k) (m + n) (a + b) old new
+module _ {U : Type 0} {u : Ghosts U} where
+  pub goes-then : (old mid new : Book U u) (h k : List Origin) (m n a b : ℕ) → Goes h m a old mid → Goes k n b mid new
+      → Goes (h ++ k) (m + n) (a + b) old new
   goes-then old mid new h k m n a b p q = record {
     load = q.load ∙ p.load;
     moment = q.moment ∙ p.moment;
@@ -104,12 +80,11 @@ module _ {U : Type 0} (ring : U → List (List ℕ)) (size limit : U → ℕ) (s
     few = omega (arith, p.few, q.few, length-append p.more q.more);
     short = omega (arith, p.short, q.short);
     pending = omega (arith, p.pending, q.pending);
-    later = λ before. q.later (p.later before);
     moved = λ s. let one = p.moved s in let two = q.moved one.0 in
-        let behind : AreFreed old.load.now (latest_first (old.journal.items ++ p.more)) q.more (way mid.up) (freed mid.up) (way new.up) (freed new.up) =
-        subst (λ (is : List Item). AreFreed old.load.now (latest_first is) q.more (way mid.up) (freed mid.up) (way new.up) (freed new.up)) p.added
-        (subst (λ (l : Load). AreFreed l (latest_first mid.journal.items) q.more (way mid.up) (freed mid.up) (way new.up) (freed new.up)) p.load two.1) in
-        (two.0, freed-append old.load.now old.journal.items p.more q.more (way old.up) (way mid.up) (way new.up) (freed old.up) (freed mid.up) (freed new.up) one.1 behind);
+        let behind : AreFreed old.load.now (latest_first (old.journal.items ++ p.more)) q.more (u.way mid.up) (u.freed mid.up) (u.way new.up) (u.freed new.up) =
+        subst (λ (is : List Item). AreFreed old.load.now (latest_first is) q.more (u.way mid.up) (u.freed mid.up) (u.way new.up) (u.freed new.up)) p.added
+        (subst (λ (l : Load). AreFreed l (latest_first mid.journal.items) q.more (u.way mid.up) (u.freed mid.up) (u.way new.up) (u.freed new.up)) p.load two.1) in
+        (two.0, freed-append old.load.now old.journal.items p.more q.more (u.way old.up) (u.way mid.up) (u.way new.up) (u.freed old.up) (u.freed mid.up) (u.freed new.up) one.1 behind);
   } where
     heads_append : (xs ys : List Item) → filter is_head (origins_of (xs ++ ys)) ≡ filter is_head (origins_of xs) ++ filter is_head (origins_of ys)
     heads_append xs ys =
@@ -118,17 +93,33 @@ module _ {U : Type 0} (ring : U → List (List ℕ)) (size limit : U → ℕ) (s
         ∙ filter-append is_head (origins_of xs) (origins_of ys)
 
   -- a later state that is told otherwise
-  pub goes-to : (old mid new : Book U) (h : List Origin) (m a : ℕ) → Goes ring size limit sent freed way h m a old mid → new.load.now ≡ mid.load.now → new.moment ≡ mid.moment → new.up ≡ mid.up → new.journal ≡ mid.journal → new.last ≡ mid.last → new.pending ≡ mid.pending
-      → Goes ring size limit sent freed way h m a old new
-  goes-to old mid new h m a p load moment up items last pending =
-      let whole = goes-then old mid new h [] m 0 a 0 p (goes-none mid new load moment up items last pending) in
-      let heads : h ++ [] ≡ h = append-nil h in
-      let count : m + 0 ≡ m = omega arith in
-      let bytes : a + 0 ≡ a = omega arith in
-      rw (heads, count, bytes) at whole
+  pub goes-to : (old mid new : Book U u) (h : List Origin) (m a : ℕ) → Goes h m a old mid → new.load.now ≡ mid.load.now → new.moment ≡ mid.moment → new.up ≡ mid.up → new.journal ≡ mid.journal → new.last ≡ mid.last
+      → new.pending ≤ old.pending + m → Goes h m a old new
+  goes-to old mid new h m a p load moment up items last pending = record {
+    load = load ∙ p.load;
+    moment = moment ∙ p.moment;
+    ring_same = ap u.ring up ∙ p.ring_same;
+    size_same = ap u.size up ∙ p.size_same;
+    limit_same = ap u.limit up ∙ p.limit_same;
+    capacity = ap vec_capacity items ∙ p.capacity;
+    more = p.more;
+    added = ap (λ v. v.items) items ∙ p.added;
+    headed = p.headed;
+    few = p.few;
+    short = omega (arith, p.short, ap (λ (e : U). length (u.sent e)) up);
+    pending = pending;
+    moved = λ s. let one = p.moved s in (
+      record {
+        stream = ap u.sent up ∙ one.0.stream ∙ sym (ap (λ (l : Load). stream_of l new.journal.items) load ∙ ap (λ v. stream_of mid.load.now v.items) items);
+        last = last ∙ one.0.last ∙ sym (ap (λ v. last_moment (latest_first v.items)) items);
+        ready = ap (λ v. is_after_refused_overflow (latest_first v.items)) items ∙ one.0.ready;
+      },
+      subst (λ (e : U). AreFreed old.load.now (latest_first old.journal.items) p.more (u.way old.up) (u.freed old.up) (u.way e) (u.freed e)) (sym up) one.1,
+    );
+  }
 
   -- the clock goes on with the heads
-  pub clock-goes : (old new : Book U) (h : List Origin) (m a : ℕ) → Goes ring size limit sent freed way h m a old new
+  pub clock-goes : (old new : Book U u) (h : List Origin) (m a : ℕ) → Goes h m a old new
       → clock_of new.load.now new.journal.items ≡ clock_of old.load.now old.journal.items + sum_by (ticks_of old.load.now) h
   clock-goes old new h m a p =
       ap (λ (load : Load). clock_of load new.journal.items) p.load ∙ ap (clock_of old.load.now) p.added
@@ -136,42 +127,40 @@ module _ {U : Type 0} (ring : U → List (List ℕ)) (size limit : U → ℕ) (s
       ∙ ap (λ (n : ℕ). clock_of old.load.now old.journal.items + n) (ticks_heads old.load.now p.more ∙ ap (sum_by (ticks_of old.load.now)) p.headed)
 
   -- a note of an item that takes nothing from the ring
-  pub goes-note : (old new : Book U) (origin : Origin) (outcome : Outcome) → new ≡ record old { journal = new.journal } → vec_capacity new.journal ≡ vec_capacity old.journal
-      → new.journal.items ≡ old.journal.items ++ made origin old.moment (freed old.up) outcome ∷ [] → filter is_head (origins_of (made origin old.moment (freed old.up) outcome ∷ [])) ≡ head_if origin
-      → is_stored outcome ≡ false → is_overflow origin ≡ false → is_written (latest_first old.journal.items) (made origin old.moment (freed old.up) outcome) ≡ false
-      → Goes ring size limit sent freed way (head_if origin) 1 0 old new
-  goes-note old new origin outcome changed capacity item headed not_stored not_overflow not_written =
-      let up : new.up ≡ old.up = ap (λ (b : Book U). b.up) changed in
-      let i : Item = made origin old.moment (freed old.up) outcome in
+  pub goes-note : (old new : Book U u) (origin : Origin) (outcome : Outcome) → Stays old new → new.up ≡ old.up → vec_capacity new.journal ≡ vec_capacity old.journal
+      → new.journal.items ≡ old.journal.items ++ made origin old.moment (u.freed old.up) outcome ∷ [] → filter is_head (origins_of (made origin old.moment (u.freed old.up) outcome ∷ [])) ≡ head_if origin
+      → is_stored outcome ≡ false → is_overflow origin ≡ false → is_written (latest_first old.journal.items) (made origin old.moment (u.freed old.up) outcome) ≡ false
+      → Goes (head_if origin) 1 0 old new
+  goes-note old new origin outcome changed up capacity item headed not_stored not_overflow not_written =
+      let i : Item = made origin old.moment (u.freed old.up) outcome in
       let latest : latest_first new.journal.items ≡ i ∷ latest_first old.journal.items = ap latest_first item ∙ latest_first-push old.journal.items i in
       record {
-        load = ap (λ (b : Book U). b.load.now) changed;
-        moment = ap (λ (b : Book U). b.moment) changed;
-        ring_same = ap ring up;
-        size_same = ap size up;
-        limit_same = ap limit up;
+        load = changed.load;
+        moment = changed.moment;
+        ring_same = ap u.ring up;
+        size_same = ap u.size up;
+        limit_same = ap u.limit up;
         capacity = capacity;
-        more = made origin old.moment (freed old.up) outcome ∷ [];
+        more = made origin old.moment (u.freed old.up) outcome ∷ [];
         added = item;
         headed = headed;
         few = omega arith;
-        short = omega (arith, ap (λ u. length (sent u)) up);
-        pending = omega (arith, ap (λ (b : Book U). b.pending) changed);
-        later = λ before. omega (arith, before, ap (λ (b : Book U). b.last) changed, ap (λ (b : Book U). b.moment) changed);
+        short = omega (arith, ap (λ (e : U). length (u.sent e)) up);
+        pending = omega (arith, changed.pending);
         moved = λ s. (
           record {
-            stream = ap sent up ∙ unwritten-stream old.load.now old.journal.items (sent old.up) i s.stream not_stored
-                ∙ sym (ap (λ (b : Book U). stream_of b.load.now new.journal.items) changed ∙ ap (stream_of old.load.now) item);
-            last = ap (λ (b : Book U). b.last) changed ∙ s.last ∙ sym (ap last_moment latest ∙ last_moment-other (latest_first old.journal.items) i (ap (λ (b : Bool). b && not (is_sync origin)) not_stored));
+            stream = ap u.sent up ∙ unwritten-stream old.load.now old.journal.items (u.sent old.up) i s.stream not_stored
+                ∙ sym (ap (λ (l : Load). stream_of l new.journal.items) changed.load ∙ ap (stream_of old.load.now) item);
+            last = changed.last ∙ s.last ∙ sym (ap last_moment latest ∙ last_moment-other (latest_first old.journal.items) i (ap (λ (b : Bool). b && not (is_sync origin)) not_stored));
             ready = ap is_after_refused_overflow latest ∙ ap (λ (b : Bool). b && is_refused outcome) not_overflow;
           },
-          subst (λ (u : U). AreFreed old.load.now (latest_first old.journal.items) (i ∷ []) (way old.up) (freed old.up) (way u) (freed u)) (sym up)
-              (unwritten-freed old.load.now (latest_first old.journal.items) i (way old.up) (freed old.up) not_written refl),
+          subst (λ (e : U). AreFreed old.load.now (latest_first old.journal.items) (i ∷ []) (u.way old.up) (u.freed old.up) (u.way e) (u.freed e)) (sym up)
+              (unwritten-freed old.load.now (latest_first old.journal.items) i (u.way old.up) (u.freed old.up) not_written refl),
         );
       }
 
   -- at most so much is at most more
-  pub goes-less : (old new : Book U) (h : List Origin) (m n a b : ℕ) → Goes ring size limit sent freed way h m a old new → m ≤ n → a ≤ b → Goes ring size limit sent freed way h n b old new
+  pub goes-less : (old new : Book U u) (h : List Origin) (m n a b : ℕ) → Goes h m a old new → m ≤ n → a ≤ b → Goes h n b old new
   goes-less old new h m n a b p few short = record {
     load = p.load;
     moment = p.moment;
@@ -185,6 +174,5 @@ module _ {U : Type 0} (ring : U → List (List ℕ)) (size limit : U → ℕ) (s
     few = omega (arith, p.few, few);
     short = omega (arith, p.short, short);
     pending = omega (arith, p.pending, few);
-    later = p.later;
     moved = p.moved;
   }

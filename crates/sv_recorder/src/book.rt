@@ -1,6 +1,7 @@
 //! The journal as it is written, one item at a time, beside the ring.
-ghost use Rattle.std.specs.Prelude.{◌≡◌, ℕ, ◌+◌, ◌<◌, ◌≤◌, ◌++◌, [], ◌∷◌, true, false, nat_lt, if◌then◌else◌, List, length, vec_capacity};
+ghost use Rattle.std.specs.Prelude.{◌≡◌, ℕ, ◌+◌, ◌^◌, ◌<◌, ◌≤◌, ◌++◌, [], ◌∷◌, true, false, nat_lt, if◌then◌else◌, List, length, vec_capacity};
 ghost use Rattle.sv_ring.specs.Ring.{room_of};
+ghost use Rattle.sv_recorder.specs.Plain.{IsPlain};
 ghost use Rattle.sv_recorder.specs.Writes.{Writes, MovesBy, made, outcome_if};
 
 use crate::journal::{Item, Journal, Origin, Outcome};
@@ -19,6 +20,9 @@ pub struct Book<'w, U: UpWriter + Drop> {
     pub pending: u32,
     pub last: u64,
     pub moment: u64,
+    ghost plain: { IsPlain load.now },
+    ghost ring: { U.size up ≡ load.now.ring },
+    ghost later: { last ≤ moment },
 }
 
 /// Whether the ring took the block.
@@ -52,15 +56,23 @@ pub fn outcome_of(stored: bool) -> Outcome
 }
 
 impl<'w, U: UpWriter + Drop> Book<'w, U> {
-    ghost use Rattle.sv_recorder.specs.Book.{IsReady, Stays};
+    ghost use Rattle.sv_recorder.specs.Book.{Advances, IsReady, Stays};
+
+    /// The ticks of a step pass.
+    pub fn advance(&mut self, ticks: u64)
+        requires { self.old.moment + ticks < 2 ^ 64 }
+        ensures { Advances ticks self.old self.new }
+    {
+        self.moment += ticks;
+    }
 
     /// One item more, of the moment and with what the ring knows to be freed.
     pub fn note(&mut self, origin: Origin, outcome: Outcome)
         requires room { length self.old.journal.items < vec_capacity self.old.journal }
         ensures item { self.new.journal.items ≡ self.old.journal.items ++ made origin self.old.moment (U.freed
             self.old.up) outcome ∷ [] }
-        ensures capacity { vec_capacity self.new.journal ≡ vec_capacity self.old.journal }
-        ensures rest { self.new ≡ record self.old { journal = self.new.journal } }
+        ensures up { self.new.up ≡ self.old.up }
+        ensures stays { Stays self.old self.new }
     {
         let freed = self.up.freed();
         let moment = self.moment;
@@ -75,11 +87,11 @@ impl<'w, U: UpWriter + Drop> Book<'w, U> {
     /// Writes a block, notes what became of it, and says whether it is stored.
     pub fn write(&mut self, origin: Origin, block: &[u8]) -> bool
         requires some { 0 < length block.now }
-        requires ready { IsReady U.size U.limit U.sent 1 (length block.now) self.old }
+        requires ready { IsReady 1 (length block.now) self.old }
         ensures writes { Writes (U.size self.old.up) self.old.journal.items self.new.journal.items (U.sent
             self.old.up) (U.sent self.new.up) (U.freed self.old.up) (U.freed self.new.up)
             origin self.old.moment block.now result }
-        ensures stays { Stays U.ring U.size U.limit self.old self.new }
+        ensures stays { Stays self.old self.new }
         ensures moves { MovesBy U.size U.sent U.freed U.way self.old.up self.new.up block.now result }
     {
         let stored = stores(&mut self.up, block);

@@ -74,41 +74,39 @@ fn form(load: &Workload, origin: Origin, moment: u64, last: u64) -> Buf
 }
 
 impl<'w, U: UpWriter + Drop> Book<'w, U> {
-    ghost use Rattle.std.specs.Prelude.{true, if◌then◌else◌};
-    ghost use Rattle.sv_recorder.specs.Book.{Holds, HoldsAs, IsReady, Records};
+    ghost use Rattle.std.specs.Prelude.{true};
+    ghost use Rattle.sv_recorder.specs.Book.{Holds, HoldsAs, IsReady, Records, Settles};
 
-    /// What a write leaves pending, and as the last moment.
-    fn settle(&mut self, stored: bool)
-        ensures { self.new ≡ record self.old {
-          pending = if stored then 0 else 1;
-          last = if stored then
-              self.old.moment else self.old.last;
-        } }
+    /// What a write leaves pending, and as the moment of the last stored packet, which was `before`.
+    fn settle(&mut self, stored: bool, before: u64)
+        requires { before ≤ self.old.moment }
+        ensures { Settles stored before self.old self.new }
     {
         if stored {
             self.pending = 0;
             self.last = self.moment;
         } else {
             self.pending = 1;
+            self.last = before;
         }
     }
 
     /// Records a packet while nothing is pending.
     fn write_plain(&mut self, origin: Origin) -> Outcome
         requires packet { HasPacket self.old.load.now origin }
-        requires ready { IsReady U.size U.limit U.sent 2 (packet_bytes self.old.load.now origin)
+        requires ready { IsReady 2 (packet_bytes self.old.load.now origin)
             self.old }
         requires on { self.old.on ≡ true }
         requires none { self.old.pending ≡ 0 }
-        ensures kept { (owed rest : List Origin) → Holds U.sent U.freed self.old owed →
+        ensures kept { (owed rest : List Origin) → Holds self.old owed →
             IsPacketHere self.old.load.now self.old.journal.items owed origin self.old.moment rest →
-            HoldsAs U.sent U.freed (not (is_stop_reply origin)) self.new rest }
-        ensures records { Records U.ring U.size U.limit U.sent U.freed U.way origin result self.old
+            HoldsAs (not (is_stop_reply origin)) self.new rest }
+        ensures records { Records origin result self.old
             self.new }
     {
         let block = form(self.load, origin, self.moment, self.last);
         let stored = self.write(origin, &block);
-        self.settle(stored);
+        self.settle(stored, self.last);
         outcome_of(stored)
     }
 
@@ -116,14 +114,14 @@ impl<'w, U: UpWriter + Drop> Book<'w, U> {
     /// with it where that is refused.
     fn write_after_overflow(&mut self, origin: Origin) -> Outcome
         requires packet { HasPacket self.old.load.now origin }
-        requires ready { IsReady U.size U.limit U.sent 2 (packet_bytes self.old.load.now origin)
+        requires ready { IsReady 2 (packet_bytes self.old.load.now origin)
             self.old }
         requires on { self.old.on ≡ true }
         requires some { 0 < self.old.pending }
-        ensures kept { (owed rest : List Origin) → Holds U.sent U.freed self.old owed →
+        ensures kept { (owed rest : List Origin) → Holds self.old owed →
             IsPacketHere self.old.load.now self.old.journal.items owed origin self.old.moment rest →
-            HoldsAs U.sent U.freed (not (is_stop_reply origin)) self.new rest }
-        ensures records { Records U.ring U.size U.limit U.sent U.freed U.way origin result self.old
+            HoldsAs (not (is_stop_reply origin)) self.new rest }
+        ensures records { Records origin result self.old
             self.new }
     {
         let count = self.pending;
@@ -136,20 +134,19 @@ impl<'w, U: UpWriter + Drop> Book<'w, U> {
         }
         let block = form(self.load, origin, self.moment, self.moment);
         let stored = self.write(origin, &block);
-        self.last = self.moment;
-        self.settle(stored);
+        self.settle(stored, self.moment);
         outcome_of(stored)
     }
 
     /// Records a packet: ignores it while the recorder is off.
     pub fn packet(&mut self, origin: Origin) -> Outcome
         requires packet { HasPacket self.old.load.now origin }
-        requires ready { IsReady U.size U.limit U.sent 2 (packet_bytes self.old.load.now origin)
+        requires ready { IsReady 2 (packet_bytes self.old.load.now origin)
             self.old }
-        ensures kept { (owed rest : List Origin) → Holds U.sent U.freed self.old owed →
+        ensures kept { (owed rest : List Origin) → Holds self.old owed →
             IsPacketHere self.old.load.now self.old.journal.items owed origin self.old.moment rest →
-            HoldsAs U.sent U.freed (self.old.on && not (is_stop_reply origin)) self.new rest }
-        ensures records { Records U.ring U.size U.limit U.sent U.freed U.way origin result self.old
+            HoldsAs (self.old.on && not (is_stop_reply origin)) self.new rest }
+        ensures records { Records origin result self.old
             self.new }
     {
         if !self.on {

@@ -48,7 +48,7 @@ impl<'w, U: UpWriter + Drop> Model for Recorder<'w, U> {
     } };
 
     ghost invariant = { λ r. IsRecorder r.book.load.now r.book.journal.items
-        (U.sent r.book.up) (U.freed r.book.up) (U.size r.book.up) (U.limit r.book.up)
+        (U.sent r.book.up) (U.freed r.book.up) (U.limit r.book.up)
         r.book.on r.book.pending r.book.last r.book.moment r.place (vec_capacity r.book.journal) };
 }
 
@@ -173,7 +173,9 @@ impl<'w, U: UpWriter + Drop> Recorder<'w, U> {
         if place as usize == steps.len() {
             return None;
         }
-        let answer = self.book.take(writer, place, &steps[place as usize]);
+        let step = &steps[place as usize];
+        self.book.advance(step.advance);
+        let answer = self.book.take(writer, place, step);
         self.place = place + 1;
         Some(answer)
     }
@@ -204,6 +206,7 @@ impl<'w> Recorder<'w, PlainRing> {
         ensures freed { self.new ≡ record self.old { freed = self.old.freed + result } }
         ensures bytes { buf.new ≡ take result (drop self.old.freed self.old.sent) ++ drop result buf.old }
     {
-        self.book.up.take(buf)
+        let book = &mut self.book;
+        book.up.take(buf)
     }
 }

@@ -1,5 +1,5 @@
 //! The groups of items that a step gives: an event, a start or a stop with its answers.
-ghost use Rattle.std.specs.Prelude.{◌≡◌, ℕ, ◌+◌, ◌*◌, ◌<◌, ◌^◌, List, [], ◌∷◌, ◌++◌, true, Some, map, length};
+ghost use Rattle.std.specs.Prelude.{◌≡◌, ℕ, ◌+◌, ◌*◌, List, [], ◌∷◌, ◌++◌, true, Some, map, length};
 ghost use Rattle.std.specs.List.{list_all};
 ghost use Rattle.sv_workload.specs.Load.{act_of, step_of};
 ghost use Rattle.sv_workload.specs.Need.{IsStepAct};
@@ -29,12 +29,12 @@ impl<'w, U: UpWriter + Drop> Book<'w, U> {
 
     /// Ten zero bytes, by which a host finds its place.
     fn sync(&mut self)
-        requires ready { IsReady U.size U.limit U.sent 1 10 self.old }
+        requires ready { IsReady 1 10 self.old }
         requires on { self.old.on ≡ true }
-        ensures kept { (rest : List Origin) → Holds U.sent U.freed self.old (Sync ∷ rest) →
+        ensures kept { (rest : List Origin) → Holds self.old (Sync ∷ rest) →
             self.old.moment ≡ clock_of self.old.load.now self.old.journal.items →
-            Holds U.sent U.freed self.new rest }
-        ensures goes { Goes U.ring U.size U.limit U.sent U.freed U.way [] 1 10 self.old self.new }
+            Holds self.new rest }
+        ensures goes { Goes [] 1 10 self.old self.new }
         ensures on { self.new.on ≡ true }
     {
         let _ = self.write(Origin::Sync, &ZEROS);
@@ -43,14 +43,14 @@ impl<'w, U: UpWriter + Drop> Book<'w, U> {
     /// Records replies of these kinds, one after another.
     fn replies(&mut self, kinds: &[Kind])
         requires kinds { list_all is_start_kind kinds.now ≡ true }
-        requires ready { IsReady U.size U.limit U.sent (2 * length kinds.now) (reply_bytes * length kinds.now)
+        requires ready { IsReady (2 * length kinds.now) (reply_bytes * length kinds.now)
             self.old }
         requires on { self.old.on ≡ true }
         ensures kept { (rest : List Origin) →
-            Holds U.sent U.freed self.old (map reply_of kinds.now ++ rest) →
+            Holds self.old (map reply_of kinds.now ++ rest) →
             self.old.moment ≡ clock_of self.old.load.now self.old.journal.items →
-            Holds U.sent U.freed self.new rest }
-        ensures goes { Goes U.ring U.size U.limit U.sent U.freed U.way [] (2 * length kinds.now)
+            Holds self.new rest }
+        ensures goes { Goes [] (2 * length kinds.now)
             (reply_bytes * length kinds.now) self.old self.new }
     {
         for kind in kinds {
@@ -64,12 +64,12 @@ impl<'w, U: UpWriter + Drop> Book<'w, U> {
     /// A step that starts the recorder: the step, ten zeros, and what describes the target.
     pub fn start(&mut self, writer: u32, step: u32)
         requires act { act_of self.old.load.now writer step ≡ Some acts.Start }
-        requires ready { IsReady U.size U.limit U.sent start_items start_bytes self.old }
-        ensures kept { Holds U.sent U.freed self.old [] →
+        requires ready { IsReady start_items start_bytes self.old }
+        ensures kept { Holds self.old [] →
             IsNextStep self.old.load.now (latest_first self.old.journal.items) (Call writer step) →
             self.old.moment ≡ ticks_of self.old.load.now (Call writer step) + clock_of
-            self.old.load.now self.old.journal.items → Holds U.sent U.freed self.new [] }
-        ensures goes { Goes U.ring U.size U.limit U.sent U.freed U.way (Call writer step ∷ []) start_items
+            self.old.load.now self.old.journal.items → Holds self.new [] }
+        ensures goes { Goes (Call writer step ∷ []) start_items
             start_bytes self.old self.new }
     {
         self.note(Origin::Call { writer, step }, Outcome::Handled);
@@ -86,12 +86,12 @@ impl<'w, U: UpWriter + Drop> Book<'w, U> {
     /// A step that stops the recorder: the step, and the packet that says so.
     pub fn stop(&mut self, writer: u32, step: u32)
         requires act { act_of self.old.load.now writer step ≡ Some acts.Stop }
-        requires ready { IsReady U.size U.limit U.sent stop_items stop_bytes self.old }
-        ensures kept { Holds U.sent U.freed self.old [] →
+        requires ready { IsReady stop_items stop_bytes self.old }
+        ensures kept { Holds self.old [] →
             IsNextStep self.old.load.now (latest_first self.old.journal.items) (Call writer step) →
             self.old.moment ≡ ticks_of self.old.load.now (Call writer step) + clock_of
-            self.old.load.now self.old.journal.items → Holds U.sent U.freed self.new [] }
-        ensures goes { Goes U.ring U.size U.limit U.sent U.freed U.way (Call writer step ∷ []) stop_items
+            self.old.load.now self.old.journal.items → Holds self.new [] }
+        ensures goes { Goes (Call writer step ∷ []) stop_items
             stop_bytes self.old self.new }
     {
         self.note(Origin::Call { writer, step }, Outcome::Handled);
@@ -105,13 +105,13 @@ impl<'w, U: UpWriter + Drop> Book<'w, U> {
     /// A step that records an event.
     fn event(&mut self, writer: u32, step: u32) -> Answer
         requires formed { IsFormed self.old.load.now (Call writer step) }
-        requires ready { IsReady U.size U.limit U.sent 2
+        requires ready { IsReady 2
             (packet_bytes self.old.load.now (Call writer step)) self.old }
-        ensures kept { Holds U.sent U.freed self.old [] →
+        ensures kept { Holds self.old [] →
             IsNextStep self.old.load.now (latest_first self.old.journal.items) (Call writer step) →
             self.old.moment ≡ ticks_of self.old.load.now (Call writer step) + clock_of
-            self.old.load.now self.old.journal.items → Holds U.sent U.freed self.new [] }
-        ensures goes { Goes U.ring U.size U.limit U.sent U.freed U.way (Call writer step ∷ []) 2
+            self.old.load.now self.old.journal.items → Holds self.new [] }
+        ensures goes { Goes (Call writer step ∷ []) 2
             (packet_bytes self.old.load.now (Call writer step)) self.old self.new }
         ensures answered { (outcome : Outcome)
             × Gains self.old.journal.items self.new.journal.items (Call writer step) outcome
@@ -121,25 +121,20 @@ impl<'w, U: UpWriter + Drop> Book<'w, U> {
         Answer::of(outcome)
     }
 
-    /// The next step of a writer's script: its ticks pass, and then it records what it says.
+    /// The next step of a writer's script, whose ticks have passed: it records what it says.
     pub fn take(&mut self, writer: u32, place: u32, step: &Step) -> Answer
         requires step { step_of self.old.load.now writer place ≡ Some step.now }
         requires act { IsStepAct step.now.act }
-        requires ready { IsReady U.size U.limit U.sent (step_items step.now) (step_bytes step.now) self.old }
-        requires ticks { self.old.moment + step.now.advance < 2 ^ 64 }
-        ensures kept { Holds U.sent U.freed self.old [] →
+        requires ready { IsReady (step_items step.now) (step_bytes step.now) self.old }
+        ensures kept { Holds self.old [] →
             IsNextStep self.old.load.now (latest_first self.old.journal.items) (Call writer place) →
-            self.old.moment ≡ clock_of self.old.load.now self.old.journal.items →
-            Holds U.sent U.freed self.new [] }
-        ensures goes { Goes U.ring U.size U.limit U.sent U.freed U.way (Call writer place ∷ [])
-            (step_items step.now) (step_bytes step.now) (record self.old {
-              moment = self.old.moment +
-                  step.now.advance;
-            }) self.new }
+            self.old.moment ≡ ticks_of self.old.load.now (Call writer place) + clock_of
+            self.old.load.now self.old.journal.items → Holds self.new [] }
+        ensures goes { Goes (Call writer place ∷ []) (step_items step.now) (step_bytes step.now) self.old
+            self.new }
         ensures answered { IsAnswered self.old.load.now self.old.journal.items self.new.journal.items
             (Call writer place) result }
     {
-        self.moment += step.advance;
         match &step.act {
             Act::Event(_) => self.event(writer, place),
             Act::Start => {

@@ -1,4 +1,4 @@
-use Rattle.std.proofs.Common.{ap, refl, arith}
+use Rattle.std.proofs.Common.{refl, arith}
 use Rattle.std.specs.Prelude.{not}
 use Rattle.sv_recorder.specs.declared.journal.Outcome.TheVariants.{Ignored}
 use Rattle.sv_recorder.specs.Book.{head_if}
@@ -12,8 +12,7 @@ use Rattle.sv_recorder.proofs.book.Book.packet.Goals as goal
 
 pub returns-then-not-self-clause-kept : goal.returns-then-not-self-clause-kept
 returns-then-not-self-clause-kept g c =
-    let u = g.U.UpWriter in
-    ignored-holds u.ring u.size u.limit u.sent u.freed u.way c.args.self.now c.note.new.self c.args.origin c.note.ensures.rest c.if-not-self.true c.note.ensures.item
+    ignored-holds c.args.self.now c.note.new.self c.args.origin c.note.ensures.stays c.note.ensures.up c.if-not-self.true c.note.ensures.item
 
 pub returns-then-self-gt0-clause-kept : goal.returns-then-self-gt0-clause-kept
 returns-then-self-gt0-clause-kept g c = λ owed rest k p.
@@ -28,10 +27,10 @@ returns-then-not-self-clause-records g c =
     let u = g.U.UpWriter in
     let old = c.args.self.now in
     let telling = c.requires.packet.telling in
-    let noted = goes-note u.ring u.size u.limit u.sent u.freed u.way old c.note.new.self c.args.origin Ignored c.note.ensures.rest c.note.ensures.capacity c.note.ensures.item (headed_one c.args.origin old.moment (u.freed old.up) Ignored)
+    let noted = goes-note old c.note.new.self c.args.origin Ignored c.note.ensures.stays c.note.ensures.up c.note.ensures.stays.capacity c.note.ensures.item (headed_one c.args.origin old.moment (u.freed old.up) Ignored)
     refl (not_overflow c.args.origin telling) (ignored_unwritten (latest_first old.journal.items) c.args.origin old.moment (u.freed old.up) telling) in
     record {
-      goes = goes-less u.ring u.size u.limit u.sent u.freed u.way old c.note.new.self (head_if c.args.origin) 1 2 0 (packet_bytes old.load.now c.args.origin) noted (omega arith) (omega arith);
-      on = ap (λ b. b.on) c.note.ensures.rest;
+      goes = goes-less old c.note.new.self (head_if c.args.origin) 1 2 0 (packet_bytes old.load.now c.args.origin) noted (omega arith) (omega arith);
+      on = c.note.ensures.stays.on;
       item = gains_one old.journal.items c.note.new.self.journal.items c.args.origin old.moment (u.freed old.up) Ignored Ignored c.note.ensures.item refl;
     }

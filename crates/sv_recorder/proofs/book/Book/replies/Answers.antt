@@ -18,12 +18,11 @@ passes_at p kinds k d all within = by (p (get_or kinds k d)) (λ fails. list_all
 
 pub loop-kind-preserved : goal.loop-kind-preserved
 loop-kind-preserved g c =
-    let u = g.U.UpWriter in
     let kinds = c.args.kinds.now in
     let k = c.loop-kind.kind-index in
     let kind = get_or kinds k TraceStart in
     let start : is_start_kind kind ≡ true = passes_at is_start_kind kinds k TraceStart c.requires.kinds c.loop-kind-test.true in
     let next : drop k kinds ≡ kind ∷ drop (k + 1) kinds = rw add-one (drop-cons kinds k TraceStart c.loop-kind-test.true) in
     let formed = start_formed c.loop-kind.self.load.now kind start in
-    replied-more u.ring u.size u.limit u.sent u.freed u.way kinds k kind c.args.self.now c.loop-kind.self c.packet.new.self c.loop-kind.invariant c.loop-kind-test.true next start
+    replied-more kinds k kind c.args.self.now c.loop-kind.self c.packet.new.self c.loop-kind.invariant c.loop-kind-test.true next start
     c.packet.ensures.kept (rw formed.1 at c.packet.ensures.records.goes) c.packet.ensures.records.on

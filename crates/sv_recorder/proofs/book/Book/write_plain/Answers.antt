@@ -5,19 +5,18 @@ use Rattle.sv_recorder.proofs.book.Book.write_plain.Goals as goal
 
 pub returns-clause-kept : goal.returns-clause-kept
 returns-clause-kept g c =
-    let u = g.U.UpWriter in
-    plain-holds u.ring u.size u.limit u.sent u.freed u.way c.args.self.now c.write-stored.new.self c.settle.new.self c.args.origin c.deref.result.now c.write-stored.result
-    c.write-stored.ensures.stays.rest c.settle.ensures c.requires.ready.ring c.requires.on c.requires.none c.write-stored.ensures.writes (c.deref.ensures.0 ∙ c.form-block.ensures.block)
+    plain-holds c.args.self.now c.write-stored.new.self c.settle.new.self c.args.origin c.deref.result.now c.write-stored.result
+    c.write-stored.ensures.stays c.settle.ensures c.args.self.now.ring c.requires.on c.requires.none c.write-stored.ensures.writes (c.deref.ensures.0 ∙ c.form-block.ensures.block)
 
 pub returns-clause-records : goal.returns-clause-records
 returns-clause-records g c =
     let u = g.U.UpWriter in
     let w = c.write-stored.ensures in
     record {
-      goes = plain-goes u.ring u.size u.limit u.sent u.freed u.way c.args.self.now c.write-stored.new.self c.settle.new.self c.args.origin c.deref.result.now c.write-stored.result
-          w.stays.rest c.settle.ensures c.requires.ready.ring w.stays.same w.stays.capacity w.writes w.moves
+      goes = plain-goes c.args.self.now c.write-stored.new.self c.settle.new.self c.args.origin c.deref.result.now c.write-stored.result
+          w.stays c.settle.ensures c.args.self.now.ring w.stays.same w.stays.capacity w.writes w.moves
           (c.deref.ensures.0 ∙ c.form-block.ensures.block) (as_long c.deref.result.now _ _ c.deref.ensures.0 c.form-block.ensures.short) c.requires.packet.telling c.requires.packet.formed;
-      on = ap (λ b. b.on) c.settle.ensures ∙ ap (λ b. b.on) w.stays.rest;
+      on = c.settle.ensures.on ∙ w.stays.on;
       item = gains_one c.args.self.now.journal.items c.settle.new.self.journal.items c.args.origin c.args.self.now.moment (u.freed c.write-stored.new.self.up) (outcome_if c.write-stored.result) c.outcome_of.result
-          (ap (λ b. b.journal.items) c.settle.ensures ∙ w.writes.item) c.outcome_of.ensures;
+          (ap (λ v. v.items) c.settle.ensures.journal ∙ w.writes.item) c.outcome_of.ensures;
     }

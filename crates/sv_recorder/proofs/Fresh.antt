@@ -1,5 +1,6 @@
 -- A recorder that has recorded nothing.
-use Rattle.std.proofs.Common.{◌≡◌, ℕ, ◌<◌, ◌≤◌, ◌^◌, length, false, List, [], refl, sym, subst, arith}
+use Rattle.std.proofs.Common.{◌≡◌, ℕ, ◌<◌, ◌≤◌, ◌^◌, length, false, List, [], refl, sym, subst}
+use Rattle.std.proofs.Common.{arith}
 use Rattle.std.proofs.lemmas.List.{nil_from_length}
 use Rattle.sv_workload.specs.Grammar.{SaysNothingOfLater}
 use Rattle.sv_workload.specs.Load.{Load, script_of}
@@ -22,7 +23,8 @@ keeps_nothing load = record {
   freed_stored = omega arith;
 }
 
-nothing : (load : Load) (limit capacity : ℕ) → IsPlain load → IsWithinLimits load → need_bytes load ≤ limit → need_items load < 3400000 → need_items load ≤ capacity
+nothing : (load : Load) (limit capacity : ℕ) → IsPlain load → IsWithinLimits load
+    → need_bytes load ≤ limit → need_items load < 3400000 → need_items load ≤ capacity
     → IsRecorder load [] [] 0 limit false 0 0 0 0 capacity
 nothing load limit capacity plain limits bytes few room =
     let items : items_for (script_of load 0) ≡ need_items load = items_needed load plain in
@@ -36,19 +38,25 @@ nothing load limit capacity plain limits bytes few room =
       room = omega (arith, items, room);
       few = omega (arith, items, few);
       bytes = omega (arith, short, bytes);
-      ticks = let t : ticks_for (script_of load 0) ≤ 2 ^ 60 = ticks_needed load plain limits in omega (arith, t);
+      ticks = let t : ticks_for (script_of load 0) ≤ 2 ^ 60 =
+          ticks_needed load plain limits in omega (arith, t);
     }
 
-pub fresh : (load : Load) (items : List Item) (sent : List ℕ) (freed limit capacity : ℕ) → IsPlain load → IsWithinLimits load → items ≡ [] → sent ≡ [] → freed ≡ 0
+pub fresh : (load : Load) (items : List Item) (sent : List ℕ) (freed limit capacity : ℕ)
+    → IsPlain load → IsWithinLimits load → items ≡ [] → sent ≡ [] → freed ≡ 0
     → need_bytes load ≤ limit → need_items load < 3400000 → need_items load ≤ capacity
     → IsRecorder load items sent freed limit false 0 0 0 0 capacity
 fresh load items sent freed limit capacity plain limits items_is sent_is freed_is bytes few room =
-    subst (λ (i : List Item). IsRecorder load i sent freed limit false 0 0 0 0 capacity) (sym items_is)
+    subst (λ (i : List Item). IsRecorder load i sent freed limit false 0 0 0 0 capacity)
+    (sym items_is)
     (subst (λ (s : List ℕ). IsRecorder load [] s freed limit false 0 0 0 0 capacity) (sym sent_is)
-    (subst (λ (n : ℕ). IsRecorder load [] [] n limit false 0 0 0 0 capacity) (sym freed_is) (nothing load limit capacity plain limits bytes few room)))
+    (subst (λ (n : ℕ). IsRecorder load [] [] n limit false 0 0 0 0 capacity) (sym freed_is)
+    (nothing load limit capacity plain limits bytes few room)))
 
--- a workload of one writer is plain, where it has no task and nothing that only words of later would say
-pub plain_of : (load : Load) → SaysNothingOfLater load → length load.scripts ≡ 1 → length load.tasks ≡ 0 → IsPlain load
+-- a workload of one writer is plain, where it has no task and nothing that only words of later
+-- would say
+pub plain_of : (load : Load) → SaysNothingOfLater load → length load.scripts ≡ 1
+    → length load.tasks ≡ 0 → IsPlain load
 plain_of load later one none = record {
   timed = later.timed;
   lines = later.lines;

@@ -8,6 +8,8 @@ pub mod Scripts
 pub mod Packets
 pub mod Overflows
 pub mod Entries
+pub mod Holds
+pub mod Moves
 pub mod Forms
 pub mod Goes
 pub mod Groups

@@ -1,4 +1,5 @@
--- Journals worked out by hand with their streams, and journals that are not legal with one thing changed.
+-- Journals worked out by hand with their streams, and journals that are not legal with one thing
+-- changed.
 pub mod Words
 pub mod Alone
 pub mod Stopped

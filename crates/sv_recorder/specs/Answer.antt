@@ -5,7 +5,8 @@ use Rattle.sv_recorder.specs.declared.answer.Answer.{Answer}
 use Rattle.sv_recorder.specs.declared.answer.Answer.TheVariants as answers
 use Rattle.sv_recorder.specs.declared.journal.Origin.{Origin}
 use Rattle.sv_recorder.specs.declared.journal.Outcome.{Outcome}
-use Rattle.sv_recorder.specs.declared.journal.Outcome.TheVariants.{Stored, Refused, Ignored, Handled}
+use Rattle.sv_recorder.specs.declared.journal.Outcome.TheVariants.{Stored, Refused, Ignored}
+use Rattle.sv_recorder.specs.declared.journal.Outcome.TheVariants.{Handled}
 use Rattle.sv_recorder.specs.declared.journal.Item.{Item}
 use Rattle.sv_recorder.specs.Legal.{is_control}
 
@@ -24,8 +25,10 @@ pub record Gains (old new : List Item) (origin : Origin) (outcome : Outcome) : T
   pub origin_is : item.origin ≡ origin
   pub outcome_is : item.outcome ≡ outcome
 
--- a start or a stop ran; of another step the answer is what became of its call, which the journal has gained
+-- a start or a stop ran; of another step the answer is what became of its call, which the journal
+-- has gained
 abbrev pub IsAnswered : Load → List Item → List Item → Origin → Answer → Type 0
 IsAnswered load old new call answer =
     ((is_control load call ≡ true) × (answer ≡ answers.Ran))
-    ⊎ ((is_control load call ≡ false) × (outcome : Outcome) × Gains old new call outcome × (answer ≡ answer_of outcome))
+    ⊎ ((is_control load call ≡ false) × (outcome : Outcome) × Gains old new call outcome
+    × (answer ≡ answer_of outcome))

@@ -1,5 +1,6 @@
 -- What a recorder works on, from one item to the next.
-use Rattle.std.specs.Prelude.{◌≡◌, ℕ, ◌+◌, ◌^◌, ◌<◌, ◌≤◌, Bool, false, List, [], ◌∷◌, ◌++◌, length, filter, vec_capacity, if◌then◌else◌}
+use Rattle.std.specs.Prelude.{◌≡◌, ℕ, ◌+◌, ◌^◌, ◌<◌, ◌≤◌, Bool, false, List, [], ◌∷◌, ◌++◌, length}
+use Rattle.std.specs.Prelude.{filter, vec_capacity, if◌then◌else◌}
 use Rattle.sv_ring.specs.declared.up_writer.UpWriter.{Ghosts}
 use Rattle.sv_recorder.specs.declared.journal.Origin.{Origin}
 use Rattle.sv_recorder.specs.declared.journal.Item.{Item}
@@ -15,17 +16,20 @@ use Rattle.sv_recorder.specs.Legal.{is_head, origins_of}
 
 -- the book keeps a journal that owes these answers
 abbrev pub Holds : {U : Type 0} {u : Ghosts U} → Book U u → List Origin → Type 0
-Holds {U} {u} book owed = Keeps book.load.now book.journal.items owed (u.sent book.up) (u.freed book.up) book.on book.pending book.last
+Holds {U} {u} book owed = Keeps book.load.now book.journal.items owed (u.sent book.up)
+    (u.freed book.up) book.on book.pending book.last
 
 -- the same, where the recorder is on or off otherwise than the book says
 abbrev pub HoldsAs : {U : Type 0} {u : Ghosts U} → Bool → Book U u → List Origin → Type 0
-HoldsAs {U} {u} on book owed = Keeps book.load.now book.journal.items owed (u.sent book.up) (u.freed book.up) on book.pending book.last
+HoldsAs {U} {u} on book owed = Keeps book.load.now book.journal.items owed (u.sent book.up)
+    (u.freed book.up) on book.pending book.last
 
 -- the head of a group that an item is, if it is one
 abbrev pub head_if : Origin → List Origin
 head_if origin = if is_head origin then origin ∷ [] else []
 
--- the bytes sent are the journal's, the last moment is that of its last stored packet, and no refused overflow waits
+-- the bytes sent are the journal's, the last moment is that of its last stored packet, and no
+-- refused overflow waits
 -- for its packet
 pub record IsInStep {U : Type 0} {u : Ghosts U} (book : Book U u) : Type 0 where
   pub stream : u.sent book.up ≡ stream_of book.load.now book.journal.items
@@ -45,11 +49,14 @@ pub record Stays {U : Type 0} {u : Ghosts U} (old new : Book U u) : Type 0 where
   pub pending : new.pending ≡ old.pending
   pub last : new.last ≡ old.last
   pub moment : new.moment ≡ old.moment
-  pub same : (u.ring new.up ≡ u.ring old.up) × (u.size new.up ≡ u.size old.up) × (u.limit new.up ≡ u.limit old.up)
+  pub same : (u.ring new.up ≡ u.ring old.up) × (u.size new.up ≡ u.size old.up)
+      × (u.limit new.up ≡ u.limit old.up)
   pub capacity : vec_capacity new.journal ≡ vec_capacity old.journal
 
--- what is pending after a write, and the moment of the last stored packet, which was `before` until then
-pub record Settles {U : Type 0} {u : Ghosts U} (stored : Bool) (before : ℕ) (old new : Book U u) : Type 0 where
+-- what is pending after a write, and the moment of the last stored packet, which was `before` until
+-- then
+pub record Settles {U : Type 0} {u : Ghosts U} (stored : Bool) (before : ℕ)
+    (old new : Book U u) : Type 0 where
   pub load : new.load.now ≡ old.load.now
   pub up : new.up ≡ old.up
   pub journal : new.journal ≡ old.journal
@@ -68,7 +75,8 @@ pub record Advances {U : Type 0} {u : Ghosts U} (ticks : ℕ) (old new : Book U 
   pub last : new.last ≡ old.last
   pub moment : new.moment ≡ old.moment + ticks
 
--- from one state to a later one: these heads of groups, at most so many items and bytes more, and the rest as before
+-- from one state to a later one: these heads of groups, at most so many items and bytes more, and
+-- the rest as before
 pub record Goes {U : Type 0} {u : Ghosts U}
     (heads : List Origin) (items bytes : ℕ) (old new : Book U u) : Type 0 where
   pub load : new.load.now ≡ old.load.now
@@ -85,7 +93,8 @@ pub record Goes {U : Type 0} {u : Ghosts U}
   pub pending : new.pending ≤ old.pending + items
   -- what is known to be freed, where the book was in step with its ring
   pub moved : IsInStep old →
-      IsInStep new × AreFreed old.load.now (latest_first old.journal.items) more (u.way old.up) (u.freed old.up) (u.way new.up) (u.freed new.up)
+      IsInStep new × AreFreed old.load.now (latest_first old.journal.items) more (u.way old.up)
+      (u.freed old.up) (u.way new.up) (u.freed new.up)
 
 -- a packet of this origin is recorded, and this is what became of it
 pub record Records {U : Type 0} {u : Ghosts U}

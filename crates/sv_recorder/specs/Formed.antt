@@ -9,7 +9,8 @@ use Rattle.sv_workload.specs.Need.{act_bytes}
 use Rattle.sv_recorder.specs.declared.journal.Kind.{Kind}
 use Rattle.sv_recorder.specs.declared.journal.Kind.TheVariants as kinds
 use Rattle.sv_recorder.specs.declared.journal.Origin.{Origin}
-use Rattle.sv_recorder.specs.declared.journal.Origin.TheVariants.{Call, Sync, Reply, Overflow, Command}
+use Rattle.sv_recorder.specs.declared.journal.Origin.TheVariants.{Call, Sync, Reply, Overflow}
+use Rattle.sv_recorder.specs.declared.journal.Origin.TheVariants.{Command}
 
 -- the kinds of replies whose packets are numbers alone
 abbrev pub IsPlainKind : Kind → Type 0
@@ -23,9 +24,11 @@ IsPlainKind kinds.Task = ⊥
 IsPlainKind kinds.Stack = ⊥
 IsPlainKind kinds.Module = ⊥
 
--- an item's packet can be formed: a step's event that a recorder takes, an overflow, or a plain reply
+-- an item's packet can be formed: a step's event that a recorder takes, an overflow, or a plain
+-- reply
 abbrev pub IsFormed : Load → Origin → Type 0
-IsFormed load (Call writer step) = (event : Event) × (act_of load writer step ≡ Some (acts.Event event)) × IsRecordable event
+IsFormed load (Call writer step) = (event : Event)
+    × (act_of load writer step ≡ Some (acts.Event event)) × IsRecordable event
 IsFormed load (Overflow count) = Unit {0}
 IsFormed load (Reply kind index) = IsPlainKind kind
 IsFormed load Sync = ⊥
@@ -35,11 +38,13 @@ IsFormed load (Command byte param) = ⊥
 abbrev pub overflow_bytes : ℕ
 overflow_bytes = 11
 
--- the most bytes of TRACE_STOP and of the overflow before it: an identifier and a delta of five bytes more
+-- the most bytes of TRACE_STOP and of the overflow before it: an identifier and a delta of five
+-- bytes more
 abbrev pub stop_bytes : ℕ
 stop_bytes = 17
 
--- the most bytes of another plain reply and of the overflow before it: an identifier, a length of two bytes, the four
+-- the most bytes of another plain reply and of the overflow before it: an identifier, a length of
+-- two bytes, the four
 -- numbers of INIT and a delta, of five bytes each
 abbrev pub reply_bytes : ℕ
 reply_bytes = 39

@@ -4,7 +4,8 @@ use Rattle.sv_workload.specs.declared.load.Step.{Step}
 use Rattle.sv_workload.specs.Need.{act_bytes, is_start_act, one_if}
 use Rattle.sv_recorder.specs.Formed.{reply_bytes}
 
--- the most items of a start's group: the step, a sync, and four replies, each with an overflow before it
+-- the most items of a start's group: the step, a sync, and four replies, each with an overflow
+-- before it
 abbrev pub start_items : ℕ
 start_items = 10
 
@@ -16,7 +17,8 @@ start_bytes = 10 + 4 * reply_bytes
 abbrev pub stop_items : ℕ
 stop_items = 3
 
--- the bytes that the need has for a start of nothing to describe: for what the start itself and four replies send
+-- the bytes that the need has for a start of nothing to describe: for what the start itself and
+-- four replies send
 abbrev pub start_need : ℕ
 start_need = 27 + 4 * 156
 

@@ -19,9 +19,11 @@ pub record Recording : Type 0 where
   pub freed : ℕ
   pub way : Way
 
--- what a recorder keeps between two sections: the journal owes nothing, the three values that spare a look back are
+-- what a recorder keeps between two sections: the journal owes nothing, the three values that spare
+-- a look back are
 -- right, and there is room for all that the steps that are left may need
-pub record IsRecorder (load : Load) (items : List Item) (sent : List ℕ) (freed limit : ℕ) (on : Bool) (pending last moment place capacity : ℕ) : Type 0 where
+pub record IsRecorder (load : Load) (items : List Item) (sent : List ℕ) (freed limit : ℕ)
+    (on : Bool) (pending last moment place capacity : ℕ) : Type 0 where
   pub limits : IsWithinLimits load
   pub held : Keeps load items [] sent freed on pending last
   pub clock : moment ≡ clock_of load items

@@ -11,6 +11,8 @@ use Rattle.sv_recorder.specs.Formed.{reply_bytes}
 -- so many of the replies are recorded
 pub record AreReplied {U : Type 0} {u : Ghosts U}
     (kinds : List Kind) (done : ℕ) (old now : Book U u) : Type 0 where
-  pub kept : (rest : List Origin) → Holds old (map reply_of kinds ++ rest) → old.moment ≡ clock_of old.load.now old.journal.items → Holds now (map reply_of (drop done kinds) ++ rest)
+  pub kept : (rest : List Origin) → Holds old (map reply_of kinds ++ rest)
+      → old.moment ≡ clock_of old.load.now old.journal.items
+      → Holds now (map reply_of (drop done kinds) ++ rest)
   pub goes : Goes [] (2 * done) (reply_bytes * done) old now
   pub on : now.on ≡ true

@@ -1,5 +1,6 @@
 //! The journal as it is written, one item at a time, beside the ring.
-ghost use Rattle.std.specs.Prelude.{◌≡◌, ℕ, ◌+◌, ◌^◌, ◌<◌, ◌≤◌, ◌++◌, [], ◌∷◌, true, false, nat_lt, if◌then◌else◌, List, length, vec_capacity};
+ghost use Rattle.std.specs.Prelude.{◌≡◌, ℕ, ◌+◌, ◌^◌, ◌<◌, ◌≤◌, ◌++◌, [], ◌∷◌, true, false, nat_lt};
+ghost use Rattle.std.specs.Prelude.{if◌then◌else◌, List, length, vec_capacity};
 ghost use Rattle.sv_ring.specs.Ring.{room_of};
 ghost use Rattle.sv_recorder.specs.Plain.{IsPlain};
 ghost use Rattle.sv_recorder.specs.Writes.{Writes, MovesBy, made, outcome_if};
@@ -31,8 +32,8 @@ fn stores<U: UpWriter>(up: &mut U, block: &[u8]) -> bool
     requires within { length (U.sent up.old) + length block.now ≤ U.limit up.old }
     ensures same { (U.ring up.new ≡ U.ring up.old) × (U.size up.new ≡ U.size up.old)
         × (U.limit up.new ≡ U.limit up.old) }
-    ensures decided { result ≡ (if nat_lt (room_of (U.size up.old) (U.sent up.old) (U.freed up.new)) (length
-        block.now) then false else true) }
+    ensures decided { result ≡ (if nat_lt (room_of (U.size up.old) (U.sent up.old) (U.freed up.new))
+        (length block.now) then false else true) }
     ensures grown { U.sent up.new ≡ U.sent up.old ++ (if result then block.now else []) }
     ensures bounded { (U.freed up.old ≤ U.freed up.new)
         × (U.freed up.new ≤ length (U.sent up.old)) }
@@ -69,8 +70,8 @@ impl<'w, U: UpWriter + Drop> Book<'w, U> {
     /// One item more, of the moment and with what the ring knows to be freed.
     pub fn note(&mut self, origin: Origin, outcome: Outcome)
         requires room { length self.old.journal.items < vec_capacity self.old.journal }
-        ensures item { self.new.journal.items ≡ self.old.journal.items ++ made origin self.old.moment (U.freed
-            self.old.up) outcome ∷ [] }
+        ensures item { self.new.journal.items ≡ self.old.journal.items
+            ++ made origin self.old.moment (U.freed self.old.up) outcome ∷ [] }
         ensures up { self.new.up ≡ self.old.up }
         ensures stays { Stays self.old self.new }
     {
@@ -88,11 +89,12 @@ impl<'w, U: UpWriter + Drop> Book<'w, U> {
     pub fn write(&mut self, origin: Origin, block: &[u8]) -> bool
         requires some { 0 < length block.now }
         requires ready { IsReady 1 (length block.now) self.old }
-        ensures writes { Writes (U.size self.old.up) self.old.journal.items self.new.journal.items (U.sent
-            self.old.up) (U.sent self.new.up) (U.freed self.old.up) (U.freed self.new.up)
+        ensures writes { Writes (U.size self.old.up) self.old.journal.items self.new.journal.items
+            (U.sent self.old.up) (U.sent self.new.up) (U.freed self.old.up) (U.freed self.new.up)
             origin self.old.moment block.now result }
         ensures stays { Stays self.old self.new }
-        ensures moves { MovesBy U.size U.sent U.freed U.way self.old.up self.new.up block.now result }
+        ensures moves { MovesBy U.size U.sent U.freed U.way self.old.up self.new.up block.now
+            result }
     {
         let stored = stores(&mut self.up, block);
         self.note(origin, outcome_of(stored));

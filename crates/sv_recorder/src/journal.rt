@@ -25,8 +25,8 @@ pub enum Origin {
     Call { writer: u32, step: u32 },
     /// The ten zero bytes of a start.
     Sync,
-    /// A packet that the recorder forms by itself. `index` counts from 0 the lines, tasks or modules
-    /// that it describes.
+    /// A packet that the recorder forms by itself. `index` counts from 0 the lines, tasks or
+    /// modules that it describes.
     Reply { kind: Kind, index: u32 },
     /// The packet that says how many packets were refused since the last stored overflow.
     Overflow { count: u32 },

@@ -1,4 +1,4 @@
-//! Packets: how one is formed, and how it is recorded: ignored, written, or written after an overflow.
+//! How a packet is formed, and how it is recorded: ignored, written, or written after an overflow.
 ghost use Rattle.std.specs.Prelude.{◌≡◌, ℕ, ◌-◌, ◌<◌, ◌≤◌, ◌&&◌, List, [], not, length};
 ghost use Rattle.sv_packet.specs.Spelling.{spelling_of};
 ghost use Rattle.sv_recorder.specs.Formed.{IsFormed, block_bytes, packet_bytes};
@@ -17,7 +17,8 @@ use sv_workload::{Act, Workload};
 fn form_step(load: &Workload, writer: u32, step: u32, ticks: u32, block: &mut Buf)
     requires formed { IsFormed load.now (Origin.Call writer step) }
     requires empty { block.old.items ≡ [] }
-    ensures block { block.new.items ≡ spelling_of (event_at load.now 0 (Origin.Call writer step)) ticks }
+    ensures block { block.new.items
+        ≡ spelling_of (event_at load.now 0 (Origin.Call writer step)) ticks }
 {
     match &load.steps(writer)[step as usize].act {
         Act::Event(event) => encode(event, ticks, block),
@@ -31,7 +32,8 @@ fn form_reply(load: &Workload, kind: Kind, moment: u64, ticks: u32, block: &mut 
     requires formed { IsFormed load.now (Origin.Reply kind 0) }
     requires plain { IsPlain load.now }
     requires empty { block.old.items ≡ [] }
-    ensures block { block.new.items ≡ spelling_of (event_at load.now moment (Origin.Reply kind 0)) ticks }
+    ensures block { block.new.items
+        ≡ spelling_of (event_at load.now moment (Origin.Reply kind 0)) ticks }
 {
     match kind {
         Kind::TraceStart => encode_flat(10, &[], &[], ticks, block),
@@ -77,7 +79,7 @@ impl<'w, U: UpWriter + Drop> Book<'w, U> {
     ghost use Rattle.std.specs.Prelude.{true};
     ghost use Rattle.sv_recorder.specs.Book.{Holds, HoldsAs, IsReady, Records, Settles};
 
-    /// What a write leaves pending, and as the moment of the last stored packet, which was `before`.
+    /// What a write leaves pending, and the moment of the last stored packet, which was `before`.
     fn settle(&mut self, stored: bool, before: u64)
         requires { before ≤ self.old.moment }
         ensures { Settles stored before self.old self.new }

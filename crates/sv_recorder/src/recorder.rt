@@ -1,4 +1,6 @@
-ghost use Rattle.std.specs.Prelude.{◌≡◌, ℕ, ◌+◌, ◌-◌, ◌<◌, ◌≤◌, ◌↔◌, [], ◌++◌, None, IsNone, IsSome, IfSome, IfNone, IfOk, count_by, length, min, take, drop};
+ghost use Rattle.std.specs.Prelude.{◌≡◌, ℕ, ◌+◌, ◌-◌, ◌<◌, ◌≤◌, ◌↔◌, [], ◌++◌, None, IsNone};
+ghost use Rattle.std.specs.Prelude.{IsSome, IfSome, IfNone, IfOk, count_by, length, min, take};
+ghost use Rattle.std.specs.Prelude.{drop};
 ghost use Rattle.sv_workload.specs.Load.{script_of};
 ghost use Rattle.sv_workload.specs.Need.{need_bytes};
 ghost use Rattle.sv_recorder.specs.Answer.{IsAnswered};
@@ -159,8 +161,8 @@ impl<'w, U: UpWriter + Drop> Recorder<'w, U> {
         // way of the ring.
         ensures section { IfSome result (λ _.
             (s : IsSection self.old.items self.new.items writer None)
-            × AreFreed self.old.load (latest_first self.old.items) s.more self.old.way self.old.freed
-            self.new.way self.new.freed) }
+            × AreFreed self.old.load (latest_first self.old.items) s.more
+            self.old.way self.old.freed self.new.way self.new.freed) }
 
         // The answer is what became of the call of this step, wherever it stands in what is added.
         ensures answered { IfSome result
@@ -204,7 +206,8 @@ impl<'w> Recorder<'w, PlainRing> {
     pub fn host_read(&mut self, buf: &mut [u8]) -> usize
         ensures count { result ≡ min (length buf.old) (length self.old.sent - self.old.freed) }
         ensures freed { self.new ≡ record self.old { freed = self.old.freed + result } }
-        ensures bytes { buf.new ≡ take result (drop self.old.freed self.old.sent) ++ drop result buf.old }
+        ensures bytes { buf.new
+            ≡ take result (drop self.old.freed self.old.sent) ++ drop result buf.old }
     {
         let book = &mut self.book;
         book.up.take(buf)

@@ -5,7 +5,8 @@ ghost use Rattle.sv_workload.specs.Load.{act_of, step_of};
 ghost use Rattle.sv_workload.specs.Need.{IsStepAct};
 ghost use Rattle.sv_recorder.specs.declared.journal.Item.{Item};
 ghost use Rattle.sv_recorder.specs.Formed.{IsFormed, packet_bytes, reply_bytes, stop_bytes};
-ghost use Rattle.sv_recorder.specs.Needs.{start_bytes, start_items, step_bytes, step_items, stop_items};
+ghost use Rattle.sv_recorder.specs.Needs.{start_bytes, start_items, step_bytes, step_items};
+ghost use Rattle.sv_recorder.specs.Needs.{stop_items};
 ghost use Rattle.sv_recorder.specs.Clock.{clock_of, is_start_kind, reply_of};
 ghost use Rattle.sv_recorder.specs.Items.{latest_first};
 ghost use Rattle.sv_recorder.specs.Legal.{IsNextStep, ticks_of};
@@ -130,10 +131,10 @@ impl<'w, U: UpWriter + Drop> Book<'w, U> {
             IsNextStep self.old.load.now (latest_first self.old.journal.items) (Call writer place) →
             self.old.moment ≡ ticks_of self.old.load.now (Call writer place) + clock_of
             self.old.load.now self.old.journal.items → Holds self.new [] }
-        ensures goes { Goes (Call writer place ∷ []) (step_items step.now) (step_bytes step.now) self.old
-            self.new }
-        ensures answered { IsAnswered self.old.load.now self.old.journal.items self.new.journal.items
-            (Call writer place) result }
+        ensures goes { Goes (Call writer place ∷ []) (step_items step.now) (step_bytes step.now)
+            self.old self.new }
+        ensures answered { IsAnswered self.old.load.now self.old.journal.items
+            self.new.journal.items (Call writer place) result }
     {
         match &step.act {
             Act::Event(_) => self.event(writer, place),

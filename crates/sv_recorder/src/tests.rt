@@ -8,8 +8,8 @@ use sv_prim::NoMemory;
 use sv_ring::PlainRing;
 use sv_workload::{Workload, parse};
 
-/// What a start alone sends: ten zeros, then TRACE_START, INIT, SYSTIME_CYCLES and NUMMODULES, all at
-/// tick 0, with a clock and a CPU of 1,000,000 Hz, the RAM base 0x20000000 and a shift of 2.
+/// What a start alone sends: ten zeros, then TRACE_START, INIT, SYSTIME_CYCLES and NUMMODULES, all
+/// at tick 0, with a clock and a CPU of 1,000,000 Hz, the RAM base 0x20000000 and a shift of 2.
 const START: [u8; 34] = [
     0, 0, 0, 0, 0, 0, 0, 0, 0, 0, 10, 0, 24, 12, 192, 132, 61, 192, 132, 61, 128, 128, 128, 128, 2,
     2, 0, 12, 0, 0, 27, 1, 0, 0,

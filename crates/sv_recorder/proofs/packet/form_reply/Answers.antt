@@ -4,5 +4,7 @@ use Rattle.sv_recorder.proofs.packet.form_reply.Goals as goal
 
 pub returns-in-Systime : goal.returns-in-Systime
 returns-in-Systime c = record {
-  block = rw (c.in-Systime.is, c.requires.plain.timed) (c.encode_flat-in-Systime.ensures (SystimeCycles (c.args.moment % 2 ^ 32)) (record { same = refl; parts = refl }));
+  block = rw (c.in-Systime.is, c.requires.plain.timed)
+      (c.encode_flat-in-Systime.ensures (SystimeCycles (c.args.moment % 2 ^ 32))
+      (record { same = refl; parts = refl }));
 }

@@ -303,13 +303,15 @@ weight-command w load byte param = elim (is_start load (Command byte param)) as
             | false ↦ λ stop.
                 let here : weight w load (Command byte param) ≡ w.control =
                 control_weight w load (Command byte param)
-                (or_last (is_start load (Command byte param) || is_stop load (Command byte param))) in
+                (or_last (is_start load (Command byte param) || is_stop load (Command byte param)))
+                in
                 omega (
                   arith,
                   weight-other w load (Command byte param) start stop,
                   here,
                   few_weight w load
-                      (most_replies load) (command_answers load byte param) (few_command w load byte param),
+                      (most_replies load) (command_answers load byte param)
+                      (few_command w load byte param),
                 )
           ] refl
     ] refl

@@ -143,7 +143,8 @@ one_more w load most size earlier i next sized before =
             (overflow_no_packet i.origin i.outcome over)),
       )
       | false ↦ λ other. elim (is_packet i) as (λ b. is_packet i ≡ b
-          → total size earlier + size earlier i ≤ (weight w load i.origin + weights_of w load earlier) +
+          → total size earlier + size earlier i ≤ (weight w load i.origin + weights_of w load
+          earlier) +
           0) [
             | true ↦ λ packet. omega (
               arith,

@@ -46,7 +46,8 @@ weight_of w load os = sum_by (weight w load) os
 abbrev pub item_weights : Weights
 item_weights = record { control = 1; call = λ event. 2; sync = 1; edge = 2; reply = 2 }
 
--- a packet with the longest delta, four bytes more than the shortest, and the 11 bytes of an overflow
+-- a packet with the longest delta, four bytes more than the shortest, and the 11 bytes of an
+-- overflow
 abbrev pub byte_weights : Weights
 byte_weights = record {
   control = 0;

@@ -10,11 +10,12 @@ ghost use Rattle.sv_recorder.specs.Open.{IsOpen, IsDue};
 ghost use Rattle.sv_recorder.specs.Stream.{stream_of};
 ghost use Rattle.sv_recorder.specs.Writes.{packet_block, is_call_or_reply};
 ghost use Rattle.sv_need.specs.Short.{HasShortTexts};
-ghost use Rattle.sv_need.specs.Weights.{weight, item_weights, byte_weights, items_ahead, bytes_ahead};
+ghost use Rattle.sv_need.specs.Weights.{weight, item_weights, byte_weights};
+ghost use Rattle.sv_need.specs.Weights.{items_ahead, bytes_ahead};
 ghost use Rattle.sv_need.specs.Next.{MayCome};
 
-/// The law of need: a legal journal has at most as many items, and its stream at most as many bytes,
-/// as the workload needs. At the limits of a workload both are few.
+/// The law of need: a legal journal has at most as many items, and its stream at most as many
+/// bytes, as the workload needs. At the limits of a workload both are few.
 pub fn within_need()
     ensures items { (load : Load) → (items : List Item) → IsLegal load items →
         length items ≤ need_items load }
@@ -27,19 +28,21 @@ pub fn within_need()
         length (stream_of load items) < 181000000 }
 {}
 
-/// The law of room: whatever is due next, be it an answer that is owed, a step or a command, the need
-/// has room for it and for all that is owed after it, each packet with an overflow before it.
+/// The law of room: whatever is due next, be it an answer that is owed, a step or a command, the
+/// need has room for it and for all that is owed after it, each packet with an overflow before it.
 pub fn room_ahead()
-    ensures items { (load : Load) → (items : List Item) → (owed rest : List Origin) → (next : Origin) →
-        IsOpen load items owed → IsDue load owed next rest → MayCome load items next →
+    ensures items { (load : Load) → (items : List Item) → (owed rest : List Origin) →
+        (next : Origin) → IsOpen load items owed → IsDue load owed next rest →
+        MayCome load items next →
         length items + items_ahead load (next ∷ rest) ≤ need_items load }
-    ensures bytes { (load : Load) → (items : List Item) → (owed rest : List Origin) → (next : Origin) →
-        IsOpen load items owed → IsDue load owed next rest → MayCome load items next →
+    ensures bytes { (load : Load) → (items : List Item) → (owed rest : List Origin) →
+        (next : Origin) → IsOpen load items owed → IsDue load owed next rest →
+        MayCome load items next →
         HasShortTexts load →
         length (stream_of load items) + bytes_ahead load (next ∷ rest) ≤ need_bytes load }
 {}
 
-/// The law of a packet's room: what is due has room for a packet with an overflow of 11 bytes before it.
+/// The law of a packet's room: its weight has room for it and for an overflow before it.
 pub fn packet_room()
     ensures items { (load : Load) → (origin : Origin) → is_call_or_reply origin ≡ true →
         is_control load origin ≡ false → weight item_weights load origin ≡ 2 }

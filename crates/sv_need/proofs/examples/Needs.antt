@@ -2,7 +2,8 @@
 use Rattle.std.proofs.Common.{◌≡◌, ◌<◌, ◌≤◌, List, [], ◌∷◌, length, replicate, refl, arith, rules}
 use Rattle.sv_workload.specs.Load.{Load}
 use Rattle.sv_workload.specs.Need.{need_items, need_bytes}
-use Rattle.sv_recorder.specs.declared.journal.Kind.TheVariants.{TraceStart, Init, Line, Systime, ModuleCount}
+use Rattle.sv_recorder.specs.declared.journal.Kind.TheVariants.{TraceStart, Init, Line, Systime}
+use Rattle.sv_recorder.specs.declared.journal.Kind.TheVariants.{ModuleCount}
 use Rattle.sv_recorder.specs.declared.journal.Origin.TheVariants.{Call, Sync, Reply}
 use Rattle.sv_recorder.specs.declared.journal.Outcome.TheVariants.{Stored, Handled}
 use Rattle.sv_recorder.specs.declared.journal.Item.{Item}
@@ -13,7 +14,8 @@ use Rattle.sv_recorder.proofs.examples.Refusals as refusals
 use Rattle.sv_need.specs.Weights.{items_ahead, bytes_ahead}
 use Rattle.sv_need.proofs.ItemCounts.{within_items}
 
--- the group of a start, with an overflow before each of its four packets: 2 + 2 * 4 items, 27 + 156 * 3 bytes
+-- the group of a start, with an overflow before each of its four packets: 2 + 2 * 4 items, 27 + 156
+-- * 3 bytes
 a_start : (items_ahead refusals.load (group_of refusals.load (Call 0 0)) ≡ 10)
     × (bytes_ahead refusals.load (group_of refusals.load (Call 0 0)) ≡ 495)
 a_start = (refl, refl)

@@ -1,40 +1,26 @@
 -- What one or two items more add to a journal.
-use Rattle.std.proofs.Common.{◌≡◌, ℕ, ◌+◌, ◌<◌, ◌≤◌, Bool, true, false, not, ◌&&◌, List, [], ◌∷◌}
+use Rattle.std.proofs.Common.{◌≡◌, ℕ, ◌+◌, ◌≤◌, Bool, true, false, not, ◌&&◌, List, [], ◌∷◌}
 use Rattle.std.proofs.Common.{◌++◌, length, refl, sym, ap, ◌∙◌, subst, arith, append_assoc}
-use Rattle.std.proofs.Common.{vec_capacity}
 use Rattle.std.specs.Prelude.{filter, if◌then◌else◌}
 use Rattle.std.proofs.lemmas.List.{length-append}
-use Rattle.sv_ring.specs.declared.up_writer.UpWriter.{Ghosts}
-use Rattle.sv_ring.specs.Ring.{Way, Moves, room_of}
 use Rattle.sv_workload.specs.declared.load.Act.TheVariants as acts
 use Rattle.sv_workload.specs.Load.{Load, act_of}
 use Rattle.sv_workload.specs.Need.{act_bytes}
 use Rattle.std.specs.Option.{option_map_or}
-use Rattle.sv_recorder.specs.declared.book.Book.{Book}
 use Rattle.sv_recorder.specs.declared.journal.Kind.TheVariants as kinds
 use Rattle.sv_recorder.specs.declared.journal.Origin.{Origin}
 use Rattle.sv_recorder.specs.declared.journal.Origin.TheVariants.{Call, Sync, Reply, Overflow}
 use Rattle.sv_recorder.specs.declared.journal.Origin.TheVariants.{Command}
 use Rattle.sv_recorder.specs.declared.journal.Outcome.{Outcome}
-use Rattle.sv_recorder.specs.declared.journal.Outcome.TheVariants.{Stored, Refused, Ignored}
 use Rattle.sv_recorder.specs.declared.journal.Item.{Item}
 use Rattle.sv_recorder.specs.Answer.{Gains}
-use Rattle.sv_recorder.specs.Freed.{wrote_if, AreFreed}
-use Rattle.sv_recorder.specs.Items.{latest_first, last_moment, is_stop_reply, is_stored, is_refused}
-use Rattle.sv_recorder.specs.Items.{is_sync, is_written, is_after_refused_overflow, block_of}
+use Rattle.sv_recorder.specs.Items.{last_moment, is_stored}
+use Rattle.sv_recorder.specs.Items.{is_sync}
 use Rattle.sv_recorder.specs.Legal.{is_head, origins_of}
-use Rattle.sv_recorder.specs.Kept.{Keeps}
-use Rattle.sv_recorder.specs.Stream.{stream_of}
-use Rattle.sv_recorder.specs.Writes.{Writes, MovesBy, made, outcome_if, packet_block}
-use Rattle.sv_recorder.specs.Writes.{is_call_or_reply, IsPacketHere}
-use Rattle.sv_recorder.specs.Formed.{IsFormed, packet_bytes, block_bytes, overflow_bytes}
-use Rattle.sv_recorder.specs.Book.{Holds, HoldsAs, IsReady, Stays, Settles, Goes, head_if}
-use Rattle.sv_recorder.proofs.Steps.{latest_first-push, last_moment-stored, last_moment-other}
-use Rattle.sv_recorder.proofs.Freed.{Written, written-stream, written-freed, unwritten-stream}
-use Rattle.sv_recorder.proofs.Freed.{unwritten-freed, packet_written, refused_unwritten}
-use Rattle.sv_recorder.proofs.Freed.{freed-append}
-use Rattle.sv_recorder.proofs.Packets.{packet-off, packet-plain, block_here, not_sync, not_overflow}
-use Rattle.sv_recorder.proofs.Overflows.{packet-after_refused, packet-after_stored}
+use Rattle.sv_recorder.specs.Writes.{made, outcome_if}
+use Rattle.sv_recorder.specs.Formed.{IsFormed, packet_bytes, block_bytes}
+use Rattle.sv_recorder.specs.Book.{head_if}
+use Rattle.sv_recorder.proofs.Steps.{last_moment-stored, last_moment-other}
 
 -- the heads among an overflow and an item after it
 pub headed_after : (origin : Origin) (count moment freed freed_now : ℕ) (told outcome : Outcome)

@@ -6,7 +6,6 @@ use Rattle.std.proofs.lemmas.List.{length-append, append-nil, map-append}
 use Rattle.std.proofs.lemmas.List.Elements.{filter-append}
 use Rattle.std.proofs.lemmas.List.Sums.{sum_by-cons}
 use Rattle.sv_ring.specs.declared.up_writer.UpWriter.{Ghosts}
-use Rattle.sv_ring.specs.Ring.{Way}
 use Rattle.sv_workload.specs.Load.{Load}
 use Rattle.sv_recorder.specs.declared.book.Book.{Book}
 use Rattle.sv_recorder.specs.declared.journal.Origin.{Origin}

@@ -1,5 +1,5 @@
 -- A full ring that nobody reads for thirty calls.
-use Rattle.std.proofs.Common.{◌≡◌, ℕ, List, [], ◌∷◌, ◌++◌, refl, rules}
+use Rattle.std.proofs.Common.{◌≡◌, List, [], ◌∷◌, ◌++◌, refl, rules}
 use Rattle.sv_workload.specs.Load.{Load}
 use Rattle.sv_recorder.specs.declared.journal.Origin.TheVariants.{Call, Overflow}
 use Rattle.sv_recorder.specs.declared.journal.Outcome.TheVariants.{Stored, Refused}

@@ -1,5 +1,5 @@
 -- Journals that are changed in one place, and are not legal.
-use Rattle.std.proofs.Common.{◌≡◌, ◌<◌, true, false, List, ◌∷◌, [], ap, arith}
+use Rattle.std.proofs.Common.{◌≡◌, ◌<◌, true, false, List, ◌∷◌, ap, arith}
 use Rattle.std.specs.Prelude.{take, remove, slice_set, slice_index_or}
 use Rattle.sv_recorder.specs.declared.journal.Kind.TheVariants as kinds
 use Rattle.sv_recorder.specs.declared.journal.Origin.TheVariants.{Call, Sync, Reply, Command}

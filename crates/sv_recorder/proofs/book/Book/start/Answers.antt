@@ -1,4 +1,4 @@
-use Rattle.std.proofs.Common.{◌*◌, arith, refl, true, ◌∷◌, []}
+use Rattle.std.proofs.Common.{◌*◌, arith, refl, ◌∷◌, []}
 use Rattle.sv_recorder.specs.declared.journal.Origin.TheVariants.{Call}
 use Rattle.sv_recorder.specs.declared.journal.Outcome.TheVariants.{Handled}
 use Rattle.sv_recorder.specs.Formed.{reply_bytes}

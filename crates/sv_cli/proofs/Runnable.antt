@@ -6,7 +6,7 @@ use Rattle.sv_workload.specs.Load.{Load}
 use Rattle.sv_workload.specs.Grammar.{IsWorkload, SaysNothingOfLater}
 use Rattle.sv_recorder.specs.declared.journal.Item.{Item}
 use Rattle.sv_recorder.specs.Plain.{IsPlain}
-use Rattle.sv_recorder.proofs.Fresh.{plain_of}
+use Rattle.sv_recorder.proofs.Laws.{plain_of}
 use Rattle.sv_cli.specs.Built.{is_built}
 use Rattle.sv_cli.specs.Recorded.{IsRecorded, IsPlayed}
 use Rattle.sv_cli.specs.declared.status.Status.{Status}

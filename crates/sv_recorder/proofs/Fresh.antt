@@ -10,7 +10,7 @@ use Rattle.sv_recorder.specs.Needs.{items_for, bytes_for, ticks_for}
 use Rattle.sv_recorder.specs.Plain.{IsPlain}
 use Rattle.sv_recorder.specs.Kept.{Keeps}
 use Rattle.sv_recorder.specs.Recording.{IsRecorder}
-use Rattle.sv_recorder.proofs.Recorders.{items_needed, bytes_needed, ticks_needed}
+use Rattle.sv_recorder.proofs.Needs.{items_needed, bytes_needed, ticks_needed}
 
 keeps_nothing : (load : Load) → Keeps load [] [] [] 0 false 0 0
 keeps_nothing load = record {

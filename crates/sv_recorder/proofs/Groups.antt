@@ -172,13 +172,8 @@ event_owes load writer step act is no_start no_stop =
     ap (λ a. option_map_or is_stop_act a false) is ∙ no_stop in
     (rw (start, stop) refl, rw (start, stop) refl)
 
--- a start or a stop is handled
+-- a start is handled
 pub handles_start : (load : Load) (writer step : ℕ) → act_of load writer step ≡ Some acts.Start
     → is_control load (Call writer step) ≡ true
 handles_start load writer step act = let start : is_start load (Call writer step) ≡ true =
     ap (λ a. option_map_or is_start_act a false) act in rw start refl
-
-pub handles_stop : (load : Load) (writer step : ℕ) → act_of load writer step ≡ Some acts.Stop
-    → is_control load (Call writer step) ≡ true
-handles_stop load writer step act = let owes =
-    stop_owes load writer step act in rw (owes.1, owes.2) refl

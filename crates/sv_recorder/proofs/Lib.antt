@@ -10,10 +10,12 @@ pub mod Overflows
 pub mod Entries
 pub mod Holds
 pub mod Moves
+pub mod OverflowMoves
 pub mod Forms
 pub mod Goes
 pub mod Groups
 pub mod Books
 pub mod Recorders
+pub mod Needs
 pub mod Views
 pub mod Fresh

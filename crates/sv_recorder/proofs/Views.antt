@@ -18,7 +18,7 @@ use Rattle.sv_recorder.specs.Book.{Advances, Holds, Goes, IsReady}
 use Rattle.sv_recorder.specs.Section.{IsSection}
 use Rattle.sv_recorder.specs.Recording.{Recording, IsRecorder}
 use Rattle.sv_recorder.proofs.Recorders.{only_writer, needs_at, pending_few, taken, section_of}
-use Rattle.sv_recorder.proofs.Recorders.{script_short}
+use Rattle.sv_recorder.proofs.Needs.{script_short}
 
 got : (steps : List Step) (place : ℕ) (d : Step) → place < length steps
     → slice_get steps place ≡ Some (slice_index_or steps place d)
@@ -165,17 +165,6 @@ module _ {U : Type 0} {u : Ghosts U} where
       (λ i. is_call_of writer i.origin) v.items ≡ length (script_of v.load writer)) (sym is)
       through in
       not (at ∙ here ∙ sym (ap length steps_is))
-
-  pub is_through : (old : Book U u) (writer place : ℕ) (steps : List Step) (view : Recording)
-      → Shown old ≡ view → Keeping old place → writer ≡ 0 → steps ≡ script_of old.load.now writer
-      → place ≡ length steps
-      → count_by (λ i. is_call_of writer i.origin) view.items ≡ length (script_of view.load writer)
-  is_through old writer place steps view is r only steps_is end =
-      let at : place ≡ count_by (λ i. is_call_of writer i.origin) old.journal.items =
-      subst (λ (w : ℕ). place ≡ count_by (λ i. is_call_of w i.origin) old.journal.items)
-      (sym only) r.place_is in
-      subst (λ (v : Recording). count_by (λ i. is_call_of writer i.origin) v.items ≡ length
-      (script_of v.load writer)) is (sym at ∙ end ∙ ap length steps_is)
 
   -- a script's steps can be counted
   pub script_fits : (old : Book U u) (writer place : ℕ) (steps : List Step) → Keeping old place

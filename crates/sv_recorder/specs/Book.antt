@@ -29,8 +29,7 @@ abbrev pub head_if : Origin → List Origin
 head_if origin = if is_head origin then origin ∷ [] else []
 
 -- the bytes sent are the journal's, the last moment is that of its last stored packet, and no
--- refused overflow waits
--- for its packet
+-- refused overflow waits for its packet
 pub record IsInStep {U : Type 0} {u : Ghosts U} (book : Book U u) : Type 0 where
   pub stream : u.sent book.up ≡ stream_of book.load.now book.journal.items
   pub last : book.last ≡ last_moment (latest_first book.journal.items)

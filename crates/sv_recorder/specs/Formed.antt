@@ -44,8 +44,7 @@ abbrev pub stop_bytes : ℕ
 stop_bytes = 17
 
 -- the most bytes of another plain reply and of the overflow before it: an identifier, a length of
--- two bytes, the four
--- numbers of INIT and a delta, of five bytes each
+-- two bytes, the four numbers of INIT and a delta, of five bytes each
 abbrev pub reply_bytes : ℕ
 reply_bytes = 39
 

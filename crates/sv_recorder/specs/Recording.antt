@@ -20,8 +20,7 @@ pub record Recording : Type 0 where
   pub way : Way
 
 -- what a recorder keeps between two sections: the journal owes nothing, the three values that spare
--- a look back are
--- right, and there is room for all that the steps that are left may need
+-- a look back are right, and there is room for all that the steps that are left may need
 pub record IsRecorder (load : Load) (items : List Item) (sent : List ℕ) (freed limit : ℕ)
     (on : Bool) (pending last moment place capacity : ℕ) : Type 0 where
   pub limits : IsWithinLimits load

@@ -6,7 +6,8 @@ use Rattle.sv_recorder.specs.Formed.{packet_bytes, block_bytes, overflow_bytes}
 use Rattle.sv_recorder.specs.Writes.{made, outcome_if}
 use Rattle.sv_recorder.proofs.Entries.{as_long, gains_two}
 use Rattle.sv_recorder.proofs.Holds.{refused-holds, after-holds}
-use Rattle.sv_recorder.proofs.Moves.{after-goes, refused-goes, ready_after}
+use Rattle.sv_recorder.proofs.Moves.{ready_after}
+use Rattle.sv_recorder.proofs.OverflowMoves.{after-goes, refused-goes}
 use Rattle.sv_recorder.proofs.Goes.{goes-to}
 use Rattle.sv_recorder.proofs.book.Book.write_after_overflow.Goals as goal
 

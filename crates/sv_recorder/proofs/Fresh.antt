@@ -1,8 +1,7 @@
 -- A recorder that has recorded nothing.
-use Rattle.std.proofs.Common.{◌≡◌, ℕ, ◌<◌, ◌≤◌, ◌^◌, length, false, List, [], ◌∷◌, refl, sym, subst, arith}
-use Rattle.std.specs.Prelude.{slice_index_or}
+use Rattle.std.proofs.Common.{◌≡◌, ℕ, ◌<◌, ◌≤◌, ◌^◌, length, false, List, [], refl, sym, subst}
+use Rattle.std.proofs.Common.{arith}
 use Rattle.std.proofs.lemmas.List.{nil_from_length}
-use Rattle.sv_workload.specs.declared.load.Step.{Step}
 use Rattle.sv_workload.specs.Grammar.{SaysNothingOfLater}
 use Rattle.sv_workload.specs.Load.{Load, script_of}
 use Rattle.sv_workload.specs.Need.{IsWithinLimits, need_items, need_bytes}
@@ -11,7 +10,7 @@ use Rattle.sv_recorder.specs.Needs.{items_for, bytes_for, ticks_for}
 use Rattle.sv_recorder.specs.Plain.{IsPlain}
 use Rattle.sv_recorder.specs.Kept.{Keeps}
 use Rattle.sv_recorder.specs.Recording.{IsRecorder}
-use Rattle.sv_recorder.proofs.Between.{items_needed, bytes_needed, ticks_needed}
+use Rattle.sv_recorder.proofs.Needs.{items_needed, bytes_needed, ticks_needed}
 
 keeps_nothing : (load : Load) → Keeps load [] [] [] 0 false 0 0
 keeps_nothing load = record {
@@ -24,48 +23,45 @@ keeps_nothing load = record {
   freed_stored = omega arith;
 }
 
-nothing : (load : Load) (size limit capacity : ℕ) → IsPlain load → IsWithinLimits load → size ≡ load.ring → need_bytes load ≤ limit → need_items load < 3400000 → need_items load ≤ capacity
-    → IsRecorder load [] [] 0 size limit false 0 0 0 0 capacity
-nothing load size limit capacity plain limits ring bytes few room =
+nothing : (load : Load) (limit capacity : ℕ) → IsPlain load → IsWithinLimits load
+    → need_bytes load ≤ limit → need_items load < 3400000 → need_items load ≤ capacity
+    → IsRecorder load [] [] 0 limit false 0 0 0 0 capacity
+nothing load limit capacity plain limits bytes few room =
     let items : items_for (script_of load 0) ≡ need_items load = items_needed load plain in
     let short : bytes_for (script_of load 0) ≤ need_bytes load = bytes_needed load plain in
     record {
-      plain = plain;
       limits = limits;
       held = keeps_nothing load;
-      ring = ring;
       clock = refl;
-      later = omega arith;
       place_is = refl;
       within = omega arith;
       room = omega (arith, items, room);
       few = omega (arith, items, few);
       bytes = omega (arith, short, bytes);
-      ticks = let t : ticks_for (script_of load 0) ≤ 2 ^ 60 = ticks_needed load plain limits in omega (arith, t);
+      ticks = let t : ticks_for (script_of load 0) ≤ 2 ^ 60 =
+          ticks_needed load plain limits in omega (arith, t);
     }
 
-pub fresh : (load : Load) (items : List Item) (sent : List ℕ) (freed size limit capacity : ℕ) → IsPlain load → IsWithinLimits load → items ≡ [] → sent ≡ [] → freed ≡ 0
-    → size ≡ load.ring → need_bytes load ≤ limit → need_items load < 3400000 → need_items load ≤ capacity
-    → IsRecorder load items sent freed size limit false 0 0 0 0 capacity
-fresh load items sent freed size limit capacity plain limits items_is sent_is freed_is ring bytes few room =
-    subst (λ (i : List Item). IsRecorder load i sent freed size limit false 0 0 0 0 capacity) (sym items_is)
-    (subst (λ (s : List ℕ). IsRecorder load [] s freed size limit false 0 0 0 0 capacity) (sym sent_is)
-    (subst (λ (n : ℕ). IsRecorder load [] [] n size limit false 0 0 0 0 capacity) (sym freed_is) (nothing load size limit capacity plain limits ring bytes few room)))
+pub fresh : (load : Load) (items : List Item) (sent : List ℕ) (freed limit capacity : ℕ)
+    → IsPlain load → IsWithinLimits load → items ≡ [] → sent ≡ [] → freed ≡ 0
+    → need_bytes load ≤ limit → need_items load < 3400000 → need_items load ≤ capacity
+    → IsRecorder load items sent freed limit false 0 0 0 0 capacity
+fresh load items sent freed limit capacity plain limits items_is sent_is freed_is bytes few room =
+    subst (λ (i : List Item). IsRecorder load i sent freed limit false 0 0 0 0 capacity)
+    (sym items_is)
+    (subst (λ (s : List ℕ). IsRecorder load [] s freed limit false 0 0 0 0 capacity) (sym sent_is)
+    (subst (λ (n : ℕ). IsRecorder load [] [] n limit false 0 0 0 0 capacity) (sym freed_is)
+    (nothing load limit capacity plain limits bytes few room)))
 
--- one script is the first one
-pub one_script : (scripts : List (List Step)) → length scripts ≡ 1 → scripts ≡ slice_index_or scripts 0 [] ∷ []
-one_script [] h = absurd (omega arith)
-one_script (s ∷ []) h = refl
-one_script (s ∷ t ∷ ss) h = absurd (omega (arith, h))
-
--- a workload of one writer is plain, where it has no task and nothing that only words of later would say
-pub plain_of : (load : Load) → SaysNothingOfLater load → length load.scripts ≡ 1 → length load.tasks ≡ 0 → IsPlain load
+-- a workload of one writer is plain, where it has no task and nothing that only words of later
+-- would say
+pub plain_of : (load : Load) → SaysNothingOfLater load → length load.scripts ≡ 1
+    → length load.tasks ≡ 0 → IsPlain load
 plain_of load later one none = record {
   timed = later.timed;
   lines = later.lines;
   tasks = nil_from_length load.tasks none;
   modules = later.modules;
   commands = later.commands;
-  script = script_of load 0;
-  scripts = one_script load.scripts one;
+  writer = one;
 }

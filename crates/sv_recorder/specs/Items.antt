@@ -1,5 +1,8 @@
--- Journal items. Each is looked at from its place: `earlier` is the items before it, the latest first.
-use Rattle.std.specs.Prelude.{ℕ, ◌-◌, ◌*◌, ◌/◌, ◌%◌, ◌^◌, Bool, true, false, not, ◌&&◌, ◌||◌, List, [], ◌∷◌, ◌++◌, length, slice_get, slice_index_or, replicate, reverse, find, count_by, take, take_while, ◌==◌, if◌then◌else◌}
+-- Journal items. Each is looked at from its place: `earlier` is the items before it, the latest
+-- first.
+use Rattle.std.specs.Prelude.{ℕ, ◌-◌, ◌*◌, ◌/◌, ◌%◌, ◌^◌, Bool, true, false, not, ◌&&◌, ◌||◌, List}
+use Rattle.std.specs.Prelude.{[], ◌∷◌, ◌++◌, length, slice_get, slice_index_or, replicate, reverse}
+use Rattle.std.specs.Prelude.{find, count_by, take, take_while, ◌==◌, if◌then◌else◌}
 use Rattle.std.specs.Option.{option_map_or}
 use Rattle.sv_prim.specs.Shrink.{shrunk}
 use Rattle.sv_packet.specs.declared.event.Event.{Event}
@@ -14,7 +17,8 @@ use Rattle.sv_workload.specs.Need.{is_start_act, is_stop_act}
 use Rattle.sv_recorder.specs.declared.journal.Kind.{Kind}
 use Rattle.sv_recorder.specs.declared.journal.Kind.TheVariants as kinds
 use Rattle.sv_recorder.specs.declared.journal.Origin.{Origin}
-use Rattle.sv_recorder.specs.declared.journal.Origin.TheVariants.{Call, Sync, Reply, Overflow, Command}
+use Rattle.sv_recorder.specs.declared.journal.Origin.TheVariants.{Call, Sync, Reply, Overflow}
+use Rattle.sv_recorder.specs.declared.journal.Origin.TheVariants.{Command}
 use Rattle.sv_recorder.specs.declared.journal.Outcome.{Outcome}
 use Rattle.sv_recorder.specs.declared.journal.Outcome.TheVariants.{Stored, Refused, Handled}
 use Rattle.sv_recorder.specs.declared.journal.Item.{Item}
@@ -84,17 +88,20 @@ is_packet item = holds_packet item.origin item.outcome
 -- the latest start or TRACE_STOP is a start
 abbrev pub is_on : Load → List Item → Bool
 is_on load earlier =
-    option_map_or (λ i. is_start load i.origin) (find (λ i. is_start load i.origin || is_stop_reply i.origin) earlier) false
+    option_map_or (λ i. is_start load i.origin) (find
+    (λ i. is_start load i.origin || is_stop_reply i.origin) earlier) false
 
 -- the moment of the latest stored item other than a sync
 abbrev pub last_moment : List Item → ℕ
 last_moment earlier =
-    option_map_or (λ i. i.moment) (find (λ i. is_stored i.outcome && not (is_sync i.origin)) earlier) 0
+    option_map_or (λ i. i.moment) (find (λ i. is_stored i.outcome && not (is_sync i.origin))
+    earlier) 0
 
 -- the packets refused since the latest stored overflow
 abbrev pub pending_at : List Item → ℕ
 pending_at earlier =
-    count_by (λ i. is_packet i && is_refused i.outcome) (take_while (λ i. not (is_overflow i.origin && is_stored i.outcome)) earlier)
+    count_by (λ i. is_packet i && is_refused i.outcome)
+    (take_while (λ i. not (is_overflow i.origin && is_stored i.outcome)) earlier)
 
 -- an overflow stands directly before
 abbrev pub is_after_overflow : List Item → Bool
@@ -114,7 +121,8 @@ before_overflow (i ∷ earlier) = if is_overflow i.origin then earlier else i �
 abbrev pub is_written : List Item → Item → Bool
 is_written earlier item =
     is_sync item.origin || is_overflow item.origin
-    || (is_packet item && (is_stored item.outcome || is_refused item.outcome) && not (is_after_refused_overflow earlier))
+    || (is_packet item && (is_stored item.outcome || is_refused item.outcome) && not
+    (is_after_refused_overflow earlier))
 
 -- EVENTS AND BLOCKS
 
@@ -132,10 +140,12 @@ abbrev pub task_info : Load → Task → Event
 task_info load task = events.TaskInfo (shrunk task.id load.base load.shift) task.priority task.name
 
 abbrev pub stack_info : Load → Task → Event
-stack_info load task = events.StackInfo (shrunk task.id load.base load.shift) task.stack_base task.stack_size task.extra
+stack_info load task = events.StackInfo (shrunk task.id load.base load.shift) task.stack_base
+    task.stack_size task.extra
 
 abbrev pub module_desc : Load → ℕ → ModuleRow → Event
-module_desc load index row = events.ModuleDesc index (offset_after (take index load.modules)) row.name
+module_desc load index row = events.ModuleDesc index (offset_after (take index load.modules))
+    row.name
 
 -- what a reply tells; Nop where there is no such task or module
 abbrev pub reply_event : Load → ℕ → Kind → ℕ → Event
@@ -143,10 +153,13 @@ reply_event load moment kinds.TraceStart index = events.TraceStart
 reply_event load moment kinds.Init index = events.Init load.clock load.cpu load.base load.shift
 reply_event load moment kinds.Line index = events.SysDesc (slice_index_or load.lines index [])
 reply_event load moment kinds.Systime index = system_time load moment
-reply_event load moment kinds.Task index = option_map_or (task_info load) (slice_get load.tasks index) events.Nop
-reply_event load moment kinds.Stack index = option_map_or (stack_info load) (slice_get load.tasks index) events.Nop
+reply_event load moment kinds.Task index = option_map_or (task_info load)
+    (slice_get load.tasks index) events.Nop
+reply_event load moment kinds.Stack index = option_map_or (stack_info load)
+    (slice_get load.tasks index) events.Nop
 reply_event load moment kinds.ModuleCount index = events.NumModules (length load.modules)
-reply_event load moment kinds.Module index = option_map_or (module_desc load index) (slice_get load.modules index) events.Nop
+reply_event load moment kinds.Module index = option_map_or (module_desc load index)
+    (slice_get load.modules index) events.Nop
 reply_event load moment kinds.TraceStop index = events.TraceStop
 
 -- the event that a step records; Nop for a start or a stop
@@ -157,7 +170,8 @@ act_event acts.Stop = events.Nop
 
 -- what an item tells; Nop where it tells nothing
 abbrev pub event_at : Load → ℕ → Origin → Event
-event_at load moment (Call writer step) = option_map_or act_event (act_of load writer step) events.Nop
+event_at load moment (Call writer step) = option_map_or act_event (act_of load writer step)
+    events.Nop
 event_at load moment (Overflow count) = events.Overflow count
 event_at load moment (Reply kind index) = reply_event load moment kind index
 event_at load moment Sync = events.Nop

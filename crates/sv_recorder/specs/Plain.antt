@@ -1,6 +1,5 @@
 -- Workloads that a recorder takes so far: one writer, and nothing to describe or to ask.
-use Rattle.std.specs.Prelude.{◌≡◌, false, List, [], ◌∷◌}
-use Rattle.sv_workload.specs.declared.load.Step.{Step}
+use Rattle.std.specs.Prelude.{◌≡◌, false, [], length}
 use Rattle.sv_workload.specs.Load.{Load}
 
 pub record IsPlain (load : Load) : Type 0 where
@@ -9,5 +8,4 @@ pub record IsPlain (load : Load) : Type 0 where
   pub tasks : load.tasks ≡ []
   pub modules : load.modules ≡ []
   pub commands : load.commands ≡ []
-  pub script : List Step
-  pub scripts : load.scripts ≡ script ∷ []
+  pub writer : length load.scripts ≡ 1

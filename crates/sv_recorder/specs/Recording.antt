@@ -8,7 +8,6 @@ use Rattle.sv_recorder.specs.Items.{is_call_of}
 use Rattle.sv_recorder.specs.Clock.{clock_of}
 use Rattle.sv_recorder.specs.Kept.{Keeps}
 use Rattle.sv_recorder.specs.Needs.{items_for, bytes_for, ticks_for}
-use Rattle.sv_recorder.specs.Plain.{IsPlain}
 
 pub record Recording : Type 0 where
   pub load : Load
@@ -20,15 +19,13 @@ pub record Recording : Type 0 where
   pub freed : ℕ
   pub way : Way
 
--- what a recorder keeps between two sections: the journal owes nothing, the three values that spare a look back are
--- right, and there is room for all that the steps that are left may need
-pub record IsRecorder (load : Load) (items : List Item) (sent : List ℕ) (freed size limit : ℕ) (on : Bool) (pending last moment place capacity : ℕ) : Type 0 where
-  pub plain : IsPlain load
+-- what a recorder keeps between two sections: the journal owes nothing, the three values that spare
+-- a look back are right, and there is room for all that the steps that are left may need
+pub record IsRecorder (load : Load) (items : List Item) (sent : List ℕ) (freed limit : ℕ)
+    (on : Bool) (pending last moment place capacity : ℕ) : Type 0 where
   pub limits : IsWithinLimits load
   pub held : Keeps load items [] sent freed on pending last
-  pub ring : size ≡ load.ring
   pub clock : moment ≡ clock_of load items
-  pub later : last ≤ moment
   pub place_is : place ≡ count_by (λ i. is_call_of 0 i.origin) items
   pub within : place ≤ length (script_of load 0)
   pub room : length items + items_for (drop place (script_of load 0)) ≤ capacity

@@ -1,5 +1,6 @@
 -- What a write to the ring leaves.
-use Rattle.std.specs.Prelude.{◌≡◌, ℕ, ◌+◌, ◌-◌, ◌%◌, ◌≤◌, Bool, true, false, List, [], ◌∷◌, ◌++◌, length, sum_by, nat_lt, if◌then◌else◌}
+use Rattle.std.specs.Prelude.{◌≡◌, ℕ, ◌+◌, ◌-◌, ◌%◌, ◌≤◌, Bool, true, false, List, [], ◌∷◌, ◌++◌}
+use Rattle.std.specs.Prelude.{length, sum_by, nat_lt, if◌then◌else◌}
 use Rattle.sv_packet.specs.Spelling.{spelling_of}
 use Rattle.sv_workload.specs.Load.{Load, period}
 use Rattle.sv_recorder.specs.declared.journal.Item.{Item}
@@ -7,6 +8,7 @@ use Rattle.sv_recorder.specs.declared.journal.Origin.{Origin}
 use Rattle.sv_recorder.specs.declared.journal.Outcome.{Outcome}
 use Rattle.sv_recorder.specs.declared.journal.Outcome.TheVariants as outcomes
 use Rattle.sv_recorder.specs.declared.journal.Origin.TheVariants.{Call, Reply}
+use Rattle.sv_recorder.specs.Formed.{IsFormed}
 use Rattle.sv_recorder.specs.Items.{event_at, latest_first}
 use Rattle.sv_recorder.specs.Legal.{is_control, IsNextStep, ticks_of}
 use Rattle.sv_recorder.specs.Open.{IsDue}
@@ -18,36 +20,55 @@ outcome_if true = outcomes.Stored
 outcome_if false = outcomes.Refused
 
 abbrev pub made : Origin → ℕ → ℕ → Outcome → Item
-made origin moment freed outcome = record { origin = origin; moment = moment; freed = freed; outcome = outcome }
+made origin moment freed outcome = record {
+  origin = origin;
+  moment = moment;
+  freed =
+      freed;
+  outcome = outcome;
+}
 
 -- the journal has gained one item, and the ring its block where there was room
-pub record Writes (size : ℕ) (items after : List Item) (sent sent_after : List ℕ) (freed freed_after : ℕ) (origin : Origin) (moment : ℕ) (block : List ℕ) (stored : Bool) : Type 0 where
-  pub item : after ≡ items ++ made origin moment freed_after (outcome_if stored) ∷ []
-  pub decided : stored ≡ (if nat_lt (room_of size sent freed_after) (length block) then false else true)
-  pub grown : sent_after ≡ sent ++ (if stored then block else [])
-  pub rises : freed ≤ freed_after
-  pub within : freed_after ≤ length sent
+pub record Writes (size : ℕ) (items after : List Item) (sent sent_after : List ℕ)
+    (freed freed_after : ℕ) (origin : Origin) (moment : ℕ) (block : List ℕ) (stored : Bool) : Type 0
+  where
+    pub item : after ≡ items ++ made origin moment freed_after (outcome_if stored) ∷ []
+    pub decided : stored ≡ (if nat_lt (room_of size sent freed_after) (length block) then false else
+        true)
+    pub grown : sent_after ≡ sent ++ (if stored then block else [])
+    pub rises : freed ≤ freed_after
+    pub within : freed_after ≤ length sent
 
 -- a write of a block moved the end of the ring by its way
-abbrev pub MovesBy : {U : Type 0} → (U → ℕ) → (U → List ℕ) → (U → ℕ) → (U → Way) → U → U → List ℕ → Bool → Type 0
+abbrev pub MovesBy : {U : Type 0} → (U → ℕ) → (U → List ℕ) → (U → ℕ) → (U → Way) → U → U → List ℕ
+    → Bool → Type 0
 MovesBy size sent freed way old new block stored =
     (way new ≡ way_after (way old))
-    × Moves (way old) (size old) (freed old) (freed new) (sent old) block (wrote_if stored (room_of (size old) (sent old) (freed new)))
+    × Moves (way old) (size old) (freed old) (freed new) (sent old) block
+    (wrote_if stored (room_of (size old) (sent old) (freed new)))
 
 -- the spelling of an item's packet
 abbrev pub packet_block : Load → Origin → ℕ → ℕ → List ℕ
-packet_block load origin moment last = spelling_of (event_at load moment origin) ((moment - last) % period load)
+packet_block load origin moment last = spelling_of (event_at load moment origin)
+    ((moment - last) % period load)
 
 -- calls and replies hold packets
-abbrev pub is_telling : Origin → Bool
-is_telling (Call writer step) = true
-is_telling (Reply kind index) = true
-is_telling other = false
+abbrev pub is_call_or_reply : Origin → Bool
+is_call_or_reply (Call writer step) = true
+is_call_or_reply (Reply kind index) = true
+is_call_or_reply other = false
 
 -- a packet that may be recorded next
-pub record IsPacketHere (load : Load) (items : List Item) (owed : List Origin) (origin : Origin) (moment : ℕ) (rest : List Origin) : Type 0 where
-  pub telling : is_telling origin ≡ true
+pub record IsPacketHere (load : Load) (items : List Item) (owed : List Origin) (origin : Origin)
+    (moment : ℕ) (rest : List Origin) : Type 0 where
+  pub telling : is_call_or_reply origin ≡ true
   pub control : is_control load origin ≡ false
   pub due : IsDue load owed origin rest
   pub step : IsNextStep load (latest_first items) origin
-  pub ticks : moment ≡ ticks_of load origin + sum_by (λ i. ticks_of load i.origin) (latest_first items)
+  pub ticks : moment ≡ ticks_of load origin + sum_by (λ i. ticks_of load i.origin)
+      (latest_first items)
+
+-- a call or a reply whose packet can be formed
+pub record HasPacket (load : Load) (origin : Origin) : Type 0 where
+  pub telling : is_call_or_reply origin ≡ true
+  pub formed : IsFormed load origin

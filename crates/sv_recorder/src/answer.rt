@@ -1,3 +1,7 @@
+ghost use Rattle.std.specs.Prelude.{◌≡◌};
+
+use crate::journal::Outcome;
+
 /// What became of a step.
 #[derive(Debug, Clone, Copy, PartialEq, Eq, Drop)]
 pub enum Answer {
@@ -9,4 +13,20 @@ pub enum Answer {
     Ignored,
     /// It was a start or a stop.
     Ran,
+}
+
+impl Answer {
+    ghost use Rattle.sv_recorder.specs.Answer.{answer_of};
+
+    /// What became of a step whose call has this outcome.
+    pub(crate) fn of(outcome: Outcome) -> Answer
+        ensures { result ≡ answer_of outcome }
+    {
+        match outcome {
+            Outcome::Stored => Answer::Sent,
+            Outcome::Refused => Answer::Refused,
+            Outcome::Ignored => Answer::Ignored,
+            Outcome::Handled => Answer::Ran,
+        }
+    }
 }

@@ -1,6 +1,8 @@
 //! The journal as it is written, one item at a time, beside the ring.
-ghost use Rattle.std.specs.Prelude.{◌≡◌, ℕ, ◌+◌, ◌<◌, ◌≤◌, ◌++◌, [], ◌∷◌, true, false, nat_lt, if◌then◌else◌, List, length, vec_capacity};
+ghost use Rattle.std.specs.Prelude.{◌≡◌, ℕ, ◌+◌, ◌^◌, ◌<◌, ◌≤◌, ◌++◌, [], ◌∷◌, true, false, nat_lt};
+ghost use Rattle.std.specs.Prelude.{if◌then◌else◌, List, length, vec_capacity};
 ghost use Rattle.sv_ring.specs.Ring.{room_of};
+ghost use Rattle.sv_recorder.specs.Plain.{IsPlain};
 ghost use Rattle.sv_recorder.specs.Writes.{Writes, MovesBy, made, outcome_if};
 
 use crate::journal::{Item, Journal, Origin, Outcome};
@@ -19,6 +21,9 @@ pub struct Book<'w, U: UpWriter + Drop> {
     pub pending: u32,
     pub last: u64,
     pub moment: u64,
+    ghost plain: { IsPlain load.now },
+    ghost ring: { U.size up ≡ load.now.ring },
+    ghost later: { last ≤ moment },
 }
 
 /// Whether the ring took the block.
@@ -27,8 +32,8 @@ fn stores<U: UpWriter>(up: &mut U, block: &[u8]) -> bool
     requires within { length (U.sent up.old) + length block.now ≤ U.limit up.old }
     ensures same { (U.ring up.new ≡ U.ring up.old) × (U.size up.new ≡ U.size up.old)
         × (U.limit up.new ≡ U.limit up.old) }
-    ensures decided { result ≡ (if nat_lt (room_of (U.size up.old) (U.sent up.old) (U.freed up.new)) (length
-        block.now) then false else true) }
+    ensures decided { result ≡ (if nat_lt (room_of (U.size up.old) (U.sent up.old) (U.freed up.new))
+        (length block.now) then false else true) }
     ensures grown { U.sent up.new ≡ U.sent up.old ++ (if result then block.now else []) }
     ensures bounded { (U.freed up.old ≤ U.freed up.new)
         × (U.freed up.new ≤ length (U.sent up.old)) }
@@ -40,7 +45,8 @@ fn stores<U: UpWriter>(up: &mut U, block: &[u8]) -> bool
     }
 }
 
-fn outcome_of(stored: bool) -> Outcome
+/// What became of a block.
+pub fn outcome_of(stored: bool) -> Outcome
     ensures { result ≡ outcome_if stored }
 {
     if stored {
@@ -51,15 +57,23 @@ fn outcome_of(stored: bool) -> Outcome
 }
 
 impl<'w, U: UpWriter + Drop> Book<'w, U> {
-    ghost use Rattle.sv_recorder.specs.Book.{Goes};
+    ghost use Rattle.sv_recorder.specs.Book.{Advances, IsReady, Stays};
+
+    /// The ticks of a step pass.
+    pub fn advance(&mut self, ticks: u64)
+        requires { self.old.moment + ticks < 2 ^ 64 }
+        ensures { Advances ticks self.old self.new }
+    {
+        self.moment += ticks;
+    }
 
     /// One item more, of the moment and with what the ring knows to be freed.
     pub fn note(&mut self, origin: Origin, outcome: Outcome)
         requires room { length self.old.journal.items < vec_capacity self.old.journal }
-        ensures item { self.new.journal.items ≡ self.old.journal.items ++ made origin self.old.moment (U.freed
-            self.old.up) outcome ∷ [] }
-        ensures capacity { vec_capacity self.new.journal ≡ vec_capacity self.old.journal }
-        ensures rest { self.new ≡ record self.old { journal = self.new.journal } }
+        ensures item { self.new.journal.items ≡ self.old.journal.items
+            ++ made origin self.old.moment (U.freed self.old.up) outcome ∷ [] }
+        ensures up { self.new.up ≡ self.old.up }
+        ensures stays { Stays self.old self.new }
     {
         let freed = self.up.freed();
         let moment = self.moment;
@@ -73,18 +87,14 @@ impl<'w, U: UpWriter + Drop> Book<'w, U> {
 
     /// Writes a block, notes what became of it, and says whether it is stored.
     pub fn write(&mut self, origin: Origin, block: &[u8]) -> bool
-        requires room { length self.old.journal.items < vec_capacity self.old.journal }
         requires some { 0 < length block.now }
-        requires within { length (U.sent self.old.up) + length block.now ≤ U.limit self.old.up }
-        ensures writes { Writes (U.size self.old.up) self.old.journal.items self.new.journal.items (U.sent
-            self.old.up) (U.sent self.new.up) (U.freed self.old.up) (U.freed self.new.up)
+        requires ready { IsReady 1 (length block.now) self.old }
+        ensures writes { Writes (U.size self.old.up) self.old.journal.items self.new.journal.items
+            (U.sent self.old.up) (U.sent self.new.up) (U.freed self.old.up) (U.freed self.new.up)
             origin self.old.moment block.now result }
-        ensures rest { self.new ≡ record self.old { journal = self.new.journal; up = self.new.up } }
-        ensures same { (U.ring self.new.up ≡ U.ring self.old.up)
-            × (U.size self.new.up ≡ U.size self.old.up)
-            × (U.limit self.new.up ≡ U.limit self.old.up) }
-        ensures capacity { vec_capacity self.new.journal ≡ vec_capacity self.old.journal }
-        ensures moves { MovesBy U.size U.sent U.freed U.way self.old.up self.new.up block.now result }
+        ensures stays { Stays self.old self.new }
+        ensures moves { MovesBy U.size U.sent U.freed U.way self.old.up self.new.up block.now
+            result }
     {
         let stored = stores(&mut self.up, block);
         self.note(origin, outcome_of(stored));

@@ -4,7 +4,7 @@ use std::alloc::Global;
 use std::marker::Model;
 
 /// What a recorder answers by itself (UM08027, initialisation and module events): the packets that
-/// describe the target behind a start or a command, and the one that tells of a stop.
+/// describe the target after a start or a command, and the one that says that it stopped.
 #[derive(Debug, Clone, Copy, PartialEq, Eq, Drop)]
 pub enum Kind {
     TraceStart,
@@ -25,10 +25,10 @@ pub enum Origin {
     Call { writer: u32, step: u32 },
     /// The ten zero bytes of a start.
     Sync,
-    /// A packet that the recorder forms by itself. `index` counts from 0 the lines, tasks or modules
-    /// that it describes.
+    /// A packet that the recorder forms by itself. `index` counts from 0 the lines, tasks or
+    /// modules that it describes.
     Reply { kind: Kind, index: u32 },
-    /// The packet that tells how many packets were refused since the last stored overflow.
+    /// The packet that says how many packets were refused since the last stored overflow.
     Overflow { count: u32 },
     /// Two bytes that the host sent.
     Command { byte: u8, param: u8 },

@@ -1,7 +1,9 @@
-ghost use Rattle.std.specs.Prelude.{◌≡◌, ℕ, ◌+◌, ◌-◌, ◌<◌, ◌≤◌, ◌↔◌, [], ◌++◌, None, IsNone, IsSome, IfSome, IfNone, IfOk, count_by, length, min, take, drop};
+ghost use Rattle.std.specs.Prelude.{◌≡◌, ℕ, ◌+◌, ◌-◌, ◌<◌, ◌≤◌, ◌↔◌, [], ◌++◌, None, IsNone};
+ghost use Rattle.std.specs.Prelude.{IsSome, IfSome, IfNone, IfOk, count_by, length, min, take};
+ghost use Rattle.std.specs.Prelude.{drop};
 ghost use Rattle.sv_workload.specs.Load.{script_of};
 ghost use Rattle.sv_workload.specs.Need.{need_bytes};
-ghost use Rattle.sv_recorder.specs.Answer.{IsTold};
+ghost use Rattle.sv_recorder.specs.Answer.{IsAnswered};
 ghost use Rattle.sv_recorder.specs.Clock.{clock_of};
 ghost use Rattle.sv_recorder.specs.Freed.{AreFreed};
 ghost use Rattle.sv_recorder.specs.Items.{latest_first, is_call_of, is_on, pending_at};
@@ -48,7 +50,7 @@ impl<'w, U: UpWriter + Drop> Model for Recorder<'w, U> {
     } };
 
     ghost invariant = { λ r. IsRecorder r.book.load.now r.book.journal.items
-        (U.sent r.book.up) (U.freed r.book.up) (U.size r.book.up) (U.limit r.book.up)
+        (U.sent r.book.up) (U.freed r.book.up) (U.limit r.book.up)
         r.book.on r.book.pending r.book.last r.book.moment r.place (vec_capacity r.book.journal) };
 }
 
@@ -60,6 +62,8 @@ pub struct Finished<U: UpWriter + Drop> {
 }
 
 impl<'w, U: UpWriter + Drop> Recorder<'w, U> {
+    ghost use Rattle.sv_recorder.specs.declared.journal.Origin.TheVariants.{Call};
+
     /// A recorder that has recorded nothing and is off, over a ring that has sent nothing. Room for
     /// all items of the workload's journal is reserved; after NoMemory the ring is dropped.
     pub fn new(alloc: Global, load: &'w Workload, up: U) -> Result<Recorder<'w, U>, NoMemory>
@@ -157,11 +161,13 @@ impl<'w, U: UpWriter + Drop> Recorder<'w, U> {
         // way of the ring.
         ensures section { IfSome result (λ _.
             (s : IsSection self.old.items self.new.items writer None)
-            × AreFreed self.old.load (latest_first self.old.items) s.more self.old.way self.old.freed
-            self.new.way self.new.freed) }
-        ensures told { IfSome result
-            (IsTold self.old.load self.new.items writer
-            (count_by (λ i. is_call_of writer i.origin) self.old.items)) }
+            × AreFreed self.old.load (latest_first self.old.items) s.more
+            self.old.way self.old.freed self.new.way self.new.freed) }
+
+        // The answer is what became of the call of this step, wherever it stands in what is added.
+        ensures answered { IfSome result
+            (IsAnswered self.old.load self.old.items self.new.items
+            (Call writer (count_by (λ i. is_call_of writer i.origin) self.old.items))) }
     {
         let load = self.book.load;
         let steps = load.steps(writer);
@@ -169,7 +175,9 @@ impl<'w, U: UpWriter + Drop> Recorder<'w, U> {
         if place as usize == steps.len() {
             return None;
         }
-        let answer = self.book.take(writer, place, &steps[place as usize]);
+        let step = &steps[place as usize];
+        self.book.advance(step.advance);
+        let answer = self.book.take(writer, place, step);
         self.place = place + 1;
         Some(answer)
     }
@@ -198,8 +206,10 @@ impl<'w> Recorder<'w, PlainRing> {
     pub fn host_read(&mut self, buf: &mut [u8]) -> usize
         ensures count { result ≡ min (length buf.old) (length self.old.sent - self.old.freed) }
         ensures freed { self.new ≡ record self.old { freed = self.old.freed + result } }
-        ensures bytes { buf.new ≡ take result (drop self.old.freed self.old.sent) ++ drop result buf.old }
+        ensures bytes { buf.new
+            ≡ take result (drop self.old.freed self.old.sent) ++ drop result buf.old }
     {
-        self.book.up.take(buf)
+        let book = &mut self.book;
+        book.up.take(buf)
     }
 }

@@ -8,8 +8,8 @@ use sv_prim::NoMemory;
 use sv_ring::PlainRing;
 use sv_workload::{Workload, parse};
 
-/// What a start alone sends: ten zeros, then TRACE_START, INIT, SYSTIME_CYCLES and NUMMODULES, all at
-/// tick 0, with a clock and a CPU of 1,000,000 Hz, the RAM base 0x20000000 and a shift of 2.
+/// What a start alone sends: ten zeros, then TRACE_START, INIT, SYSTIME_CYCLES and NUMMODULES, all
+/// at tick 0, with a clock and a CPU of 1,000,000 Hz, the RAM base 0x20000000 and a shift of 2.
 const START: [u8; 34] = [
     0, 0, 0, 0, 0, 0, 0, 0, 0, 0, 10, 0, 24, 12, 192, 132, 61, 192, 132, 61, 128, 128, 128, 128, 2,
     2, 0, 12, 0, 0, 27, 1, 0, 0,
@@ -31,12 +31,12 @@ fn plain(alloc: Global, text: &[u8]) -> Result<Workload, Fail>
     Ok(load)
 }
 
-/// Takes all steps, with a read of 20 bytes behind the step of this number, counted from 1. Gives
+/// Takes all steps, with a read of 20 bytes after the step of this number, counted from 1. Gives
 /// what became of the steps of the numbers from `from` on.
 fn run(
     alloc: Global,
     load: &Workload,
-    read_behind: usize,
+    read_after: usize,
     from: usize,
     answers: &mut Vec<Answer>,
 ) -> Result<Finished<PlainRing>, NoMemory>
@@ -51,7 +51,7 @@ fn run(
         let Some(answer) = recorder.section(0) else {
             break;
         };
-        if count == read_behind {
+        if count == read_after {
             recorder.host_read(&mut buf);
         }
         if count >= from && answers.push(answer).is_err() {
@@ -61,7 +61,7 @@ fn run(
     Ok(recorder.finish())
 }
 
-/// The line `writer`, a start, and so many marks, each a tick behind the step before it.
+/// The line `writer`, a start, and so many marks, each a tick after the step before it.
 fn marks(alloc: Global, count: usize) -> Result<Vec<u8>, Fail> {
     let mut text = b"writer\n0 start\n".to_vec(alloc)?;
     for _ in 0..count {
@@ -73,7 +73,7 @@ fn marks(alloc: Global, count: usize) -> Result<Vec<u8>, Fail> {
 #[test]
 fn streams_without_a_refusal(rt: HostRuntime) -> Result<(), Fail> {
     let alloc = rt.alloc();
-    for (text, begins, behind, items) in [
+    for (text, begins, rest, items) in [
         ("writer\n0 start\n", Some(0), [].as_slice(), 6),
         (
             "writer\n5 mark 9\n0 start\n2 mark 9\n3 stop\n1 mark 9",
@@ -99,7 +99,7 @@ fn streams_without_a_refusal(rt: HostRuntime) -> Result<(), Fail> {
             start[28] = tick;
             want.extend_from_slice(&start)?;
         }
-        want.extend_from_slice(behind)?;
+        want.extend_from_slice(rest)?;
         assert_eq!(rt; done.up.bytes(), want.as_slice(), "{text}");
         assert_eq!(rt; done.journal.items().len(), items, "{text}");
     }
@@ -126,7 +126,7 @@ fn three_marks_refused_and_counted(rt: HostRuntime) -> Result<(), Fail> {
     );
 
     // The start and 329 marks take 1,021 of 1,023 bytes. Behind the read comes the count of those
-    // that are lost, 4 ticks behind the last mark that was stored.
+    // that are lost, 4 ticks after the last mark that was stored.
     let mut want = START.to_vec(alloc)?;
     for _ in 0..329 {
         want.extend_from_slice(&[15, 5, 1])?;

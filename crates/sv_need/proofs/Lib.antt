@@ -1,0 +1,11 @@
+pub mod examples
+pub mod Groups
+pub mod Heads
+pub mod Scripts
+pub mod Sizes
+pub mod Rows
+pub mod ItemCounts
+pub mod Blocks
+pub mod ByteCounts
+pub mod Limits
+pub mod Rooms

@@ -1,0 +1,2 @@
+-- Needs worked out by hand.
+pub mod Needs

@@ -1,0 +1,6 @@
+-- What crates above may use of the lemmas on journals.
+pub use Rattle.sv_recorder.proofs.Fresh.{plain_of}
+pub use Rattle.sv_recorder.proofs.Freed.{still-freed}
+pub use Rattle.sv_recorder.proofs.Scripts.{calls_within, one_script}
+pub use Rattle.sv_recorder.proofs.Steps.{latest_first-push, each-push, IsLegal-open, IsOpen-legal}
+pub use Rattle.sv_recorder.proofs.Steps.{outcome_at-control}

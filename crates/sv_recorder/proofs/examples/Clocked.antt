@@ -1,0 +1,41 @@
+-- A start that tells the time in microseconds, its stream, and that it is legal and whole.
+use Rattle.std.proofs.Common.{◌≡◌, ℕ, ◌<◌, zero, suc, true, List, [], ◌∷◌, length, refl, arith}
+use Rattle.std.proofs.Common.{rules}
+use Rattle.std.specs.Prelude.{count_by}
+use Rattle.sv_workload.specs.Load.{Load, script_of}
+use Rattle.sv_recorder.specs.declared.journal.Item.{Item}
+use Rattle.sv_recorder.specs.Items.{is_call_of}
+use Rattle.sv_recorder.specs.Legal.{IsLegal, IsWhole}
+use Rattle.sv_recorder.specs.Stream.{stream_of, IsCalm}
+use Rattle.sv_recorder.proofs.examples.Words.{load_of, start, started}
+
+abbrev pub load : Load
+load = record (load_of 1024 (start 3 ∷ [])) { clock = 2; timed = true }
+
+abbrev pub items : List Item
+items = started 3 0 0
+
+abbrev pub bytes : List ℕ
+bytes =
+    0 ∷ 0 ∷ 0 ∷ 0 ∷ 0 ∷ 0 ∷ 0 ∷ 0 ∷ 0 ∷ 0 ∷ 10 ∷ 3 ∷ 24 ∷ 10 ∷ 2 ∷ 192 ∷ 132 ∷ 61 ∷ 128 ∷ 128 ∷
+    128 ∷ 128 ∷ 2 ∷ 2 ∷ 0 ∷ 13 ∷ 224 ∷ 198 ∷ 91 ∷ 0 ∷ 0 ∷ 27 ∷ 1 ∷ 0 ∷ 0 ∷ []
+
+count : length items ≡ 6
+count = refl
+
+stream : stream_of load items ≡ bytes
+stream = refl
+
+pub legal : IsLegal load items
+legal = search rules
+
+scripts : (writer : ℕ) → writer < length load.scripts
+    → count_by (λ i. is_call_of writer i.origin) items ≡ length (script_of load writer)
+scripts zero h = refl
+scripts (suc writer) h = absurd (omega (arith, h))
+
+pub whole : IsWhole load items
+whole = record { scripts = scripts; commands = refl }
+
+calm : IsCalm load items
+calm = search rules

@@ -1,0 +1,164 @@
+//! How a packet is formed, and how it is recorded: ignored, written, or written after an overflow.
+ghost use Rattle.std.specs.Prelude.{◌≡◌, ℕ, ◌-◌, ◌<◌, ◌≤◌, ◌&&◌, List, [], not, length};
+ghost use Rattle.sv_packet.specs.Spelling.{spelling_of};
+ghost use Rattle.sv_recorder.specs.Formed.{IsFormed, block_bytes, packet_bytes};
+ghost use Rattle.sv_recorder.specs.Items.{event_at, is_stop_reply};
+ghost use Rattle.sv_recorder.specs.Plain.{IsPlain};
+ghost use Rattle.sv_recorder.specs.Writes.{HasPacket, IsPacketHere, packet_block};
+
+use crate::book::{Book, outcome_of};
+use crate::journal::{Kind, Origin, Outcome};
+use sv_packet::{Event, encode, encode_flat};
+use sv_prim::{Buf, delta};
+use sv_ring::UpWriter;
+use sv_workload::{Act, Workload};
+
+/// The packet of a step's event.
+fn form_step(load: &Workload, writer: u32, step: u32, ticks: u32, block: &mut Buf)
+    requires formed { IsFormed load.now (Origin.Call writer step) }
+    requires empty { block.old.items ≡ [] }
+    ensures block { block.new.items
+        ≡ spelling_of (event_at load.now 0 (Origin.Call writer step)) ticks }
+{
+    match &load.steps(writer)[step as usize].act {
+        Act::Event(event) => encode(event, ticks, block),
+        Act::Start => unreachable!(),
+        Act::Stop => unreachable!(),
+    }
+}
+
+/// The packet of a reply at a moment.
+fn form_reply(load: &Workload, kind: Kind, moment: u64, ticks: u32, block: &mut Buf)
+    requires formed { IsFormed load.now (Origin.Reply kind 0) }
+    requires plain { IsPlain load.now }
+    requires empty { block.old.items ≡ [] }
+    ensures block { block.new.items
+        ≡ spelling_of (event_at load.now moment (Origin.Reply kind 0)) ticks }
+{
+    match kind {
+        Kind::TraceStart => encode_flat(10, &[], &[], ticks, block),
+        Kind::Init => encode_flat(
+            24,
+            &[load.clock(), load.cpu(), load.base(), load.shift()],
+            &[],
+            ticks,
+            block,
+        ),
+        Kind::Systime => encode_flat(12, &[(moment % (1 << 32)) as u32], &[], ticks, block),
+        Kind::ModuleCount => encode_flat(27, &[0], &[], ticks, block),
+        Kind::TraceStop => encode_flat(11, &[], &[], ticks, block),
+        Kind::Line => unreachable!(),
+        Kind::Task => unreachable!(),
+        Kind::Stack => unreachable!(),
+        Kind::Module => unreachable!(),
+    }
+}
+
+/// The packet of an item at a moment, where the packet stored before it has the moment `last`.
+fn form(load: &Workload, origin: Origin, moment: u64, last: u64) -> Buf
+    requires formed { IsFormed load.now origin }
+    requires plain { IsPlain load.now }
+    requires later { last ≤ moment }
+    ensures block { result.items ≡ packet_block load.now origin moment last }
+    ensures some { 0 < length result.items }
+    ensures short { length result.items ≤ block_bytes load.now origin }
+{
+    let ticks = delta(moment, last);
+    let mut block = Buf::new();
+    match origin {
+        Origin::Call { writer, step } => form_step(load, writer, step, ticks, &mut block),
+        Origin::Overflow { count } => encode(&Event::Overflow { count }, ticks, &mut block),
+        Origin::Reply { kind, .. } => form_reply(load, kind, moment, ticks, &mut block),
+        Origin::Sync => unreachable!(),
+        Origin::Command { .. } => unreachable!(),
+    }
+    block
+}
+
+impl<'w, U: UpWriter + Drop> Book<'w, U> {
+    ghost use Rattle.std.specs.Prelude.{true};
+    ghost use Rattle.sv_recorder.specs.Book.{Holds, HoldsAs, IsReady, Records, Settles};
+
+    /// What a write leaves pending, and the moment of the last stored packet, which was `before`.
+    fn settle(&mut self, stored: bool, before: u64)
+        requires { before ≤ self.old.moment }
+        ensures { Settles stored before self.old self.new }
+    {
+        if stored {
+            self.pending = 0;
+            self.last = self.moment;
+        } else {
+            self.pending = 1;
+            self.last = before;
+        }
+    }
+
+    /// Records a packet while nothing is pending.
+    fn write_plain(&mut self, origin: Origin) -> Outcome
+        requires packet { HasPacket self.old.load.now origin }
+        requires ready { IsReady 2 (packet_bytes self.old.load.now origin)
+            self.old }
+        requires on { self.old.on ≡ true }
+        requires none { self.old.pending ≡ 0 }
+        ensures kept { (owed rest : List Origin) → Holds self.old owed →
+            IsPacketHere self.old.load.now self.old.journal.items owed origin self.old.moment rest →
+            HoldsAs (not (is_stop_reply origin)) self.new rest }
+        ensures records { Records origin result self.old
+            self.new }
+    {
+        let block = form(self.load, origin, self.moment, self.last);
+        let stored = self.write(origin, &block);
+        self.settle(stored, self.last);
+        outcome_of(stored)
+    }
+
+    /// Records a packet while packets are pending: after an overflow with their count, and refused
+    /// with it where that is refused.
+    fn write_after_overflow(&mut self, origin: Origin) -> Outcome
+        requires packet { HasPacket self.old.load.now origin }
+        requires ready { IsReady 2 (packet_bytes self.old.load.now origin)
+            self.old }
+        requires on { self.old.on ≡ true }
+        requires some { 0 < self.old.pending }
+        ensures kept { (owed rest : List Origin) → Holds self.old owed →
+            IsPacketHere self.old.load.now self.old.journal.items owed origin self.old.moment rest →
+            HoldsAs (not (is_stop_reply origin)) self.new rest }
+        ensures records { Records origin result self.old
+            self.new }
+    {
+        let count = self.pending;
+        let overflow = Origin::Overflow { count };
+        let block = form(self.load, overflow, self.moment, self.last);
+        if !self.write(overflow, &block) {
+            self.note(origin, Outcome::Refused);
+            self.pending = count + 1;
+            return Outcome::Refused;
+        }
+        let block = form(self.load, origin, self.moment, self.moment);
+        let stored = self.write(origin, &block);
+        self.settle(stored, self.moment);
+        outcome_of(stored)
+    }
+
+    /// Records a packet: ignores it while the recorder is off.
+    pub fn packet(&mut self, origin: Origin) -> Outcome
+        requires packet { HasPacket self.old.load.now origin }
+        requires ready { IsReady 2 (packet_bytes self.old.load.now origin)
+            self.old }
+        ensures kept { (owed rest : List Origin) → Holds self.old owed →
+            IsPacketHere self.old.load.now self.old.journal.items owed origin self.old.moment rest →
+            HoldsAs (self.old.on && not (is_stop_reply origin)) self.new rest }
+        ensures records { Records origin result self.old
+            self.new }
+    {
+        if !self.on {
+            self.note(origin, Outcome::Ignored);
+            return Outcome::Ignored;
+        }
+        if self.pending > 0 {
+            self.write_after_overflow(origin)
+        } else {
+            self.write_plain(origin)
+        }
+    }
+}

@@ -1,3 +1,5 @@
 pub mod Writing
 pub mod Reading
 pub mod Places
+pub mod Blames
+pub mod Laws

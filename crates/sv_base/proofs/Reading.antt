@@ -2,8 +2,8 @@
 use Rattle.std.proofs.Common.{◌≡◌, ℕ, zero, suc, ◌+◌, ◌≤◌, List, [], ◌∷◌, ◌++◌, length, take, drop, Option, Some, None, refl, sym, subst, ap, ◌∙◌, append_assoc, arith, length-append}
 use Rattle.std.specs.Prelude.{min, ◌<◌}
 use Rattle.std.proofs.lemmas.List.{drop-drop, take_at, length-drop, length-take, take-append-drop, nil_from_length}
-use Rattle.std.specs.Io.KnownBytes.{Consumes}
-use Rattle.sv_base.specs.Streams.{ConsumesMore}
+use Rattle.std.specs.Io.KnownBytes.{Consumes, Keeps}
+use Rattle.sv_base.specs.Streams.{ConsumesFewer, ConsumesMore}
 use borrow.Rule.Slice.PartMut.{put_mid}
 
 -- a read copies a front of what is left
@@ -22,6 +22,18 @@ Consumes-then None b c x y p q = tt
 Consumes-then (Some s) None c x y p q = absurd p
 Consumes-then (Some s) (Some t) None x y p q = absurd q
 Consumes-then (Some s) (Some t) (Some u) x y p q = p ∙ ap (λ (k : List ℕ). x ++ k) q ∙ sym (append_assoc x y u)
+
+-- a failed read takes no byte
+pub Consumes-kept : (a b c : Option (List ℕ)) (x : List ℕ) → Consumes a b x → Keeps b c → Consumes a c x
+Consumes-kept None b c x p q = tt
+Consumes-kept (Some s) None c x p q = absurd p
+Consumes-kept (Some s) (Some t) None x p q = absurd q
+Consumes-kept (Some s) (Some t) (Some u) x p q = p ∙ ap (λ (k : List ℕ). x ++ k) (sym q)
+
+-- the bytes so far, and then those of one more read, all within the limit
+pub ConsumesFewer-from : (a b c : Option (List ℕ)) (bytes buf : List ℕ) (count limit : ℕ) → Consumes a b bytes → Consumes b c (take count buf) → count ≤ length buf → length bytes + count < limit → ConsumesFewer a c limit
+ConsumesFewer-from a b c bytes buf count limit p q within few =
+    (bytes ++ take count buf, Consumes-then a b c bytes (take count buf) p q, omega (arith, length-append bytes (take count buf), length-take count buf))
 
 -- the bytes so far, and then those of one more read
 pub ConsumesMore-from : (a b c : Option (List ℕ)) (bytes buf : List ℕ) (count limit : ℕ) → Consumes a b bytes → Consumes b c (take count buf) → count ≤ length buf → limit < length bytes + count → ConsumesMore a c limit

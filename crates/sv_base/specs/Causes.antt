@@ -1,5 +1,5 @@
 -- Counts, and the faults that they count: a fault is answered only where its object's count rose.
-use Rattle.std.specs.Prelude.{◌≡◌, ℕ, ◌+◌, ◌-◌, ◌^◌, ◌≤◌, max, min, Result, OnOk, OnErr}
+use Rattle.std.specs.Prelude.{◌≡◌, ℕ, ◌+◌, ◌-◌, ◌^◌, ◌≤◌, Bool, true, max, min, Result, OnOk, OnErr}
 
 -- one more, as far as a u64 goes: at its end a count stays
 abbrev pub one_more : ℕ → ℕ
@@ -14,3 +14,14 @@ pub record HasCause {T E : Type 0} (before now : ℕ) (result : Result T E) : Ty
   pub later : before ≤ now
   pub failed : OnErr result (Rose before now)
   pub kept : OnOk result (now ≡ before)
+
+-- a device is blamed only where its count rose, and else its count is as before
+pub record Blames (blamed : Type 0) (before now : ℕ) : Type 0 where
+  pub rose : blamed → Rose before now
+  pub kept : (blamed → ⊥) → now ≡ before
+
+-- a sink is blamed only for one fault, its latest call, and else its count is as before
+pub record BlamesLast (blamed : Type 0) (broken : Bool) (before now : ℕ) : Type 0 where
+  pub one : blamed → now ≡ one_more before
+  pub last : blamed → broken ≡ true
+  pub kept : (blamed → ⊥) → now ≡ before

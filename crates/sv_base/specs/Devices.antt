@@ -8,7 +8,8 @@ pub record FileState : Type 0 where
   pub begins : ℕ
   pub faults : ℕ
 
--- a standard stream
+-- a standard stream, with whether its latest write failed
 pub record StreamState : Type 0 where
   pub stream : Stream
   pub faults : ℕ
+  pub broken : Bool

@@ -34,8 +34,8 @@ abbrev pub bytes_at : List File → Option ℕ → List ℕ
 bytes_at files None = []
 bytes_at files (Some place) = bytes_in (slice_get files place)
 
--- a source in memory: its files, which calls fail, how many calls, begins and faults there were, what is left of the
--- file begun last, and whether it is open
+-- a source in memory: its files, which calls fail, how many calls, begins and faults there were,
+-- what is left of the file begun last, and whether it is open
 pub record MemFiles : Type 0 where
   pub files : List File
   pub fails : List ℕ
@@ -49,11 +49,12 @@ pub record MemFiles : Type 0 where
 abbrev pub IsSure : MemFiles → List ℕ → Type 0
 IsSure source name = (source.fails ≡ []) × IsSome (bytes_of source.files name)
 
--- a sink in memory: the bytes that it took, how many it takes at most, which calls fail, and how many calls and faults
--- there were
+-- a sink in memory: the bytes that it took, how many it takes at most, which calls fail, how many
+-- calls and faults there were, and whether the latest call failed
 pub record MemBytes : Type 0 where
   pub written : List ℕ
   pub room : ℕ
   pub fails : List ℕ
   pub calls : ℕ
   pub faults : ℕ
+  pub broken : Bool

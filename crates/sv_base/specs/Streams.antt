@@ -16,6 +16,10 @@ goes_on (Err e) = false
 abbrev pub AppendsPart : Option (List ℕ) → Option (List ℕ) → List ℕ → Type 0
 AppendsPart old new bytes = (count : ℕ) × Appends old new (take count bytes)
 
--- more bytes came than the limit
+-- bytes were read, fewer than the limit
+abbrev pub ConsumesFewer : Option (List ℕ) → Option (List ℕ) → ℕ → Type 0
+ConsumesFewer old new limit = (bytes : List ℕ) × Consumes old new bytes × (length bytes < limit)
+
+-- bytes were read, more than the limit
 abbrev pub ConsumesMore : Option (List ℕ) → Option (List ℕ) → ℕ → Type 0
 ConsumesMore old new limit = (bytes : List ℕ) × Consumes old new bytes × (limit < length bytes)

@@ -1,8 +1,9 @@
-ghost use Rattle.std.specs.Prelude.{◌≡◌, ◌≢◌, ◌<◌, ◌≤◌, IsTrue, IsOk, Err, length, take, vec_len, IfOk, OnOk, OnErr, IsErrOf};
+ghost use Rattle.std.specs.Prelude.{◌≡◌, ◌≢◌, ◌+◌, ◌<◌, ◌≤◌, IsTrue, IsOk, Err, true, length, take};
+ghost use Rattle.std.specs.Prelude.{vec_len, IfOk, OnOk, OnErr, IsErrOf};
 ghost use Rattle.std.specs.Io.KnownBytes.{Appends, Consumes, IsAtEnd};
-ghost use Rattle.sv_base.specs.Causes.{Rose, HasCause};
+ghost use Rattle.sv_base.specs.Causes.{Blames, HasCause, one_more};
 ghost use Rattle.sv_base.specs.Copies.{is_left_open, is_filled};
-ghost use Rattle.sv_base.specs.Streams.{IsSameFiles, AppendsPart, ConsumesMore};
+ghost use Rattle.sv_base.specs.Streams.{IsSameFiles, AppendsPart, ConsumesFewer, ConsumesMore};
 
 use crate::failed::Failed;
 use crate::sink::Sink;
@@ -26,11 +27,15 @@ pub enum ReadAll {
 
 /// Writes all the bytes, in as many pieces as the sink makes of them.
 ///
-/// Answers [`Failed`] only where the device failed. Then a front of the bytes was written, maybe none.
+/// Answers [`Failed`] only where the device failed. Then a front of the bytes was written, maybe
+/// none, and the write that failed was the last.
 pub fn put_all<K: Sink>(out: &mut K, bytes: &[u8]) -> Result<(), Failed>
     ensures ok { OnOk result (Appends (K.written out.old) (K.written out.new) bytes.now) }
     ensures err { OnErr result (AppendsPart (K.written out.old) (K.written out.new) bytes.now) }
     ensures cause { HasCause (K.faults out.old) (K.faults out.new) result }
+    ensures one { OnErr result (K.faults out.new ≡ one_more (K.faults out.old)) }
+    ensures last { OnErr result (K.broken out.new ≡ true) }
+    ensures sound { OnOk result (K.broken out.new ≡ true → K.broken out.old ≡ true) }
 {
     let mut rest = bytes;
     while !rest.is_empty() {
@@ -43,7 +48,8 @@ pub fn put_all<K: Sink>(out: &mut K, bytes: &[u8]) -> Result<(), Failed>
 /// Reads bytes of the open file until the buffer is full or the file ends, and says how many: fewer
 /// than the buffer has room for only at the end of the file, which closes it.
 ///
-/// Answers [`Failed`] only where the device failed. Then bytes that were read are lost.
+/// Answers [`Failed`] only where the device failed. Then fewer bytes were read than the buffer has
+/// room for, and they are lost.
 pub fn fill<S: Source>(src: &mut S, buf: &mut [u8]) -> Result<usize, Failed>
     requires open { IsTrue (S.opened src.old) }
     requires room { 0 < length buf.old }
@@ -51,6 +57,7 @@ pub fn fill<S: Source>(src: &mut S, buf: &mut [u8]) -> Result<usize, Failed>
     ensures bound { IfOk result (λ count. count ≤ length buf.old) }
     ensures bytes { IfOk result (λ count. Consumes (S.left src.old) (S.left src.new) (take count buf.new)) }
     ensures end { IfOk result (λ count. count < length buf.old → IsAtEnd (S.left src.new)) }
+    ensures lost { OnErr result (ConsumesFewer (S.left src.old) (S.left src.new) (length buf.old)) }
     ensures opened { S.opened src.new ≡ is_filled (length buf.old) result }
 
     // What no answer changes.
@@ -81,10 +88,13 @@ pub fn fill<S: Source>(src: &mut S, buf: &mut [u8]) -> Result<usize, Failed>
 /// Each byte is copied once, from a buffer of 4096 bytes on the stack. At most `limit` bytes are kept.
 pub fn read_all<S: Source>(alloc: Global, src: &mut S, limit: u64) -> Result<Vec<u8>, ReadAll>
     requires { IsTrue (S.opened src.old) }
-    ensures whole { IfOk result (λ bytes. Consumes (S.left src.old) (S.left src.new) bytes.items × IsAtEnd (S.left src.new)) }
+    ensures whole { IfOk result (λ bytes. Consumes (S.left src.old) (S.left src.new) bytes.items) }
+    ensures end { OnOk result (IsAtEnd (S.left src.new)) }
     ensures within { IfOk result (λ bytes. vec_len bytes ≤ limit) }
     ensures long { IsErrOf result ReadAll.TooLong → ConsumesMore (S.left src.old) (S.left src.new) limit }
     ensures memory { IsErrOf result ReadAll.NoMemory → ConsumesMore (S.left src.old) (S.left src.new) 0 }
+    ensures memory_within { IsErrOf result ReadAll.NoMemory → ConsumesFewer (S.left src.old) (S.left src.new) (limit + 1) }
+    ensures lost { IsErrOf result ReadAll.Failed → ConsumesFewer (S.left src.old) (S.left src.new) (limit + 1) }
     ensures opened { S.opened src.new ≡ is_left_open result }
 
     // What no answer changes.
@@ -92,8 +102,7 @@ pub fn read_all<S: Source>(alloc: Global, src: &mut S, limit: u64) -> Result<Vec
     ensures begins { S.begins src.new ≡ S.begins src.old }
 
     // A fault has its cause, and there is none where the file is safe.
-    ensures failed { IsErrOf result ReadAll.Failed → Rose (S.faults src.old) (S.faults src.new) }
-    ensures kept { result ≢ Err ReadAll.Failed → S.faults src.new ≡ S.faults src.old }
+    ensures cause { Blames (IsErrOf result ReadAll.Failed) (S.faults src.old) (S.faults src.new) }
     ensures safe { S.safe src.old → (result ≢ Err ReadAll.Failed) × S.safe src.new }
 {
     let mut bytes = Vec::new(alloc);

@@ -1,4 +1,4 @@
-ghost use Rattle.std.specs.Prelude.{◌≡◌, ◌⊎◌, ◌↔◌, ◌+◌, ◌^◌, ◌<◌, [], Some, IsTrue, IsOk, is_ok, IsErr, IsNone, IfOk, IfSome, OnOk, OnErr, Contains, length, drop, min, false};
+ghost use Rattle.std.specs.Prelude.{◌≡◌, ◌⊎◌, ◌↔◌, ◌+◌, ◌^◌, ◌<◌, [], Some, IsTrue, IsOk, is_ok, IsErr, IsNone, IfOk, OnOk, OnErr, Contains, length, drop, min, false};
 ghost use Rattle.std.specs.Io.{ReadsAtMost};
 ghost use Rattle.std.specs.Io.KnownBytes.{ReadConsumes};
 ghost use Rattle.sv_base.specs.Causes.{HasCause, one_more};
@@ -94,7 +94,7 @@ impl Source for MemSource {
     /// Looks through `fails` and through the names, one by one.
     fn begin(&mut self, name: &str) -> Result<(), Failed>
         ensures files { IsSameFiles (bytes_of self.old.files) (bytes_of self.new.files) (IsSure self.old) (IsSure self.new) }
-        ensures content { OnOk result (IfSome (bytes_of self.old.files name.now) (λ bytes. Some self.new.left ≡ Some bytes)) }
+        ensures content { OnOk result (Some self.new.left ≡ bytes_of self.old.files name.now) }
         ensures opened { self.new.opened ≡ is_ok result }
         ensures begins { self.new.begins ≡ one_more self.old.begins }
         ensures sure { IsSure self.old name.now → IsOk result × (self.new.fails ≡ []) }

@@ -1,4 +1,4 @@
-ghost use Rattle.std.specs.Prelude.{◌≡◌, ◌<◌, ◌≤◌, None, IfOk, OnErr, length};
+ghost use Rattle.std.specs.Prelude.{◌≡◌, ◌<◌, ◌≤◌, None, false, is_err, IfOk, OnErr, length};
 ghost use Rattle.sv_base.specs.Causes.{HasCause, one_more};
 
 use crate::failed::Failed;
@@ -22,6 +22,7 @@ pub struct OutSink<R: Print + Eprint + Drop> {
     rt: R,
     stream: Stream,
     faults: u64,
+    broken: bool,
 }
 
 impl<R: Print + Eprint + Drop> Model for OutSink<R> {
@@ -29,18 +30,19 @@ impl<R: Print + Eprint + Drop> Model for OutSink<R> {
 
     ghost Value = { StreamState };
 
-    ghost view = { λ s. record { stream = s.stream; faults = s.faults } };
+    ghost view = { λ s. record { stream = s.stream; faults = s.faults; broken = s.broken } };
 }
 
 impl<R: Print + Eprint + Drop> OutSink<R> {
     /// The stream of `rt` that is named.
     pub fn new(rt: R, stream: Stream) -> OutSink<R>
-        ensures { result ≡ record { stream = stream; faults = 0 } }
+        ensures { result ≡ record { stream = stream; faults = 0; broken = false } }
     {
         OutSink {
             rt,
             stream,
             faults: 0,
+            broken: false,
         }
     }
 }
@@ -50,6 +52,8 @@ impl<R: Print + Eprint + Drop> Sink for OutSink<R> {
 
     ghost faults = { λ s. s.faults };
 
+    ghost broken = { λ s. s.broken };
+
     /// Makes one write to the stream. One that takes no byte is a fault.
     fn write(&mut self, piece: &[u8]) -> Result<usize, Failed>
         requires { 0 < length piece.now }
@@ -57,6 +61,7 @@ impl<R: Print + Eprint + Drop> Sink for OutSink<R> {
         ensures bound { IfOk result (λ count. count ≤ length piece.now) }
         ensures cause { HasCause self.old.faults self.new.faults result }
         ensures fault { OnErr result (self.new.faults ≡ one_more self.old.faults) }
+        ensures broken { self.new.broken ≡ is_err result }
         ensures stream { self.new.stream ≡ self.old.stream }
     {
         let wrote = match self.stream {
@@ -67,8 +72,12 @@ impl<R: Print + Eprint + Drop> Sink for OutSink<R> {
             },
         };
         match wrote {
-            Ok(count) if count > 0 => Ok(count),
+            Ok(count) if count > 0 => {
+                self.broken = false;
+                Ok(count)
+            }
             _ => {
+                self.broken = true;
                 self.faults = self.faults.saturating_add(1);
                 Err(Failed)
             }

@@ -1,4 +1,4 @@
-ghost use Rattle.std.specs.Prelude.{◌≡◌, ℕ, ◌<◌, Bool, List, Option, Some, IsTrue, IsOk, is_ok, length, OnOk, IfSome};
+ghost use Rattle.std.specs.Prelude.{◌≡◌, ℕ, ◌<◌, Bool, List, Option, IsTrue, IsOk, is_ok, length, OnOk};
 ghost use Rattle.std.specs.Io.{ReadsAtMost};
 ghost use Rattle.std.specs.Io.KnownBytes.{ReadConsumes};
 ghost use Rattle.sv_base.specs.Causes.{HasCause, one_more};
@@ -29,13 +29,14 @@ pub trait Source {
     /// How often the device has failed. It stays at 2^64 - 1.
     ghost faults: { Self → ℕ };
 
-    /// Begins the file of this name at its front, and leaves the file that was open.
+    /// Begins the file of this name at its front, and leaves the file that was open. What is left to be
+    /// read is what is held under the name, known or not.
     ///
     /// Answers [`Failed`] only where the device failed, as for a name that is not there. Then no file
     /// is open.
     fn begin(&mut self, name: &str) -> Result<(), Failed>
         ensures files { IsSameFiles (held self.old) (held self.new) (sure self.old) (sure self.new) }
-        ensures content { OnOk result (IfSome (held self.old name.now) (λ bytes. left self.new ≡ Some bytes)) }
+        ensures content { OnOk result (left self.new ≡ held self.old name.now) }
         ensures opened { opened self.new ≡ is_ok result }
         ensures begins { begins self.new ≡ one_more (begins self.old) }
         ensures sure { sure self.old name.now → IsOk result × safe self.new }
@@ -44,7 +45,7 @@ pub trait Source {
     /// Reads bytes of the open file into the front of the buffer, and says how many: at least one,
     /// or 0 at the end of the file. Both the end and a failure close the file.
     ///
-    /// Answers [`Failed`] only where the device failed.
+    /// Answers [`Failed`] only where the device failed. Then no byte of the file was taken.
     fn read(&mut self, buf: &mut [u8]) -> Result<usize, Failed>
         requires open { IsTrue (opened self.old) }
         requires room { 0 < length buf.old }

@@ -1,4 +1,4 @@
-use Rattle.std.proofs.Common.{◌+◌, ◌∙◌, ℕ, List, subst, take}
+use Rattle.std.proofs.Common.{◌+◌, ◌∙◌, ℕ, List, subst, take, rules}
 use Rattle.std.specs.Io.KnownBytes.{Appends}
 use Rattle.sv_base.proofs.Writing.{Appends-more, rest_behind}
 use Rattle.sv_base.proofs.copies.put_all.Goals as goal
@@ -12,4 +12,5 @@ loop-rest-preserved g c =
       rest = rest_behind c.args.bytes.now c.loop-rest.rest.now so_far.count count so_far.rest;
       bytes = Appends-more (written c.args.out.now) (written c.loop-rest.out) (written c.write.new.self) c.args.bytes.now so_far.count count so_far.bytes (subst (λ (x : List ℕ). Appends (written c.loop-rest.out) (written c.write.new.self) (take count x)) so_far.rest c.in_ok-count.ensures.bytes);
       kept = c.in_ok-count.ensures.cause.kept ∙ so_far.kept;
+      sound = search rules;
     }

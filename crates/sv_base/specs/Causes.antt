@@ -9,7 +9,8 @@ one_more n = max n (min (n + 1) (2 ^ 64 - 1))
 abbrev pub Rose : ℕ → ℕ → Type 0
 Rose before now = min (before + 1) (2 ^ 64 - 1) ≤ now
 
--- the count of an object over one call: it never falls, an error makes it rise, and an answer leaves it
+-- the count of an object over one call: it never falls, an error makes it rise, and an answer
+-- leaves it
 pub record HasCause {T E : Type 0} (before now : ℕ) (result : Result T E) : Type 0 where
   pub later : before ≤ now
   pub failed : OnErr result (Rose before now)

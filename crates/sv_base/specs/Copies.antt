@@ -10,7 +10,7 @@ is_left_open (Err Failed) = false
 is_left_open (Err TooLong) = true
 is_left_open (Err NoMemory) = true
 
--- whether the file is still open after a read that fills so much room: it is where all of it is filled
+-- whether the file is still open after a read that fills so much room: it is where all is filled
 abbrev pub is_filled : {E : Type 0} → ℕ → Result ℕ E → Bool
 is_filled room (Ok count) = nat_le room count
 is_filled room (Err e) = false

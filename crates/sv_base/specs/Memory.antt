@@ -1,5 +1,6 @@
 -- Files and written bytes in memory.
-use Rattle.std.specs.Prelude.{◌≡◌, ℕ, Bool, List, [], Option, Some, None, IsSome, map, position, slice_get, if◌then◌else◌, String, string_bytes}
+use Rattle.std.specs.Prelude.{◌≡◌, ℕ, Bool, List, [], Option, Some, None, IsSome}
+use Rattle.std.specs.Prelude.{map, position, slice_get, if◌then◌else◌, String, string_bytes}
 use Rattle.std.specs.List.{find}
 use Rattle.std.specs.Option.{option_map}
 use Rattle.std.specs.Str.{bytes_eq}

@@ -55,13 +55,15 @@ pub fn fill<S: Source>(src: &mut S, buf: &mut [u8]) -> Result<usize, Failed>
     requires room { 0 < length buf.old }
     ensures same { length buf.new ≡ length buf.old }
     ensures bound { IfOk result (λ count. count ≤ length buf.old) }
-    ensures bytes { IfOk result (λ count. Consumes (S.left src.old) (S.left src.new) (take count buf.new)) }
+    ensures bytes { IfOk result
+        (λ count. Consumes (S.left src.old) (S.left src.new) (take count buf.new)) }
     ensures end { IfOk result (λ count. count < length buf.old → IsAtEnd (S.left src.new)) }
     ensures lost { OnErr result (ConsumesFewer (S.left src.old) (S.left src.new) (length buf.old)) }
     ensures opened { S.opened src.new ≡ is_filled (length buf.old) result }
 
     // What no answer changes.
-    ensures files { IsSameFiles (S.held src.old) (S.held src.new) (S.sure src.old) (S.sure src.new) }
+    ensures files { IsSameFiles (S.held src.old) (S.held src.new)
+        (S.sure src.old) (S.sure src.new) }
     ensures begins { S.begins src.new ≡ S.begins src.old }
 
     // A fault has its cause, and there is none where the file is safe.
@@ -85,20 +87,26 @@ pub fn fill<S: Source>(src: &mut S, buf: &mut [u8]) -> Result<usize, Failed>
 /// more came, and `NoMemory` where bytes came that found no room on the heap. After `TooLong` and
 /// `NoMemory` the file is still open, and the bytes that were read are lost.
 ///
-/// Each byte is copied once, from a buffer of 4096 bytes on the stack. At most `limit` bytes are kept.
+/// Each byte is copied once, from a buffer of 4096 bytes on the stack. At most `limit` bytes are
+/// kept.
 pub fn read_all<S: Source>(alloc: Global, src: &mut S, limit: u64) -> Result<Vec<u8>, ReadAll>
     requires { IsTrue (S.opened src.old) }
     ensures whole { IfOk result (λ bytes. Consumes (S.left src.old) (S.left src.new) bytes.items) }
     ensures end { OnOk result (IsAtEnd (S.left src.new)) }
     ensures within { IfOk result (λ bytes. vec_len bytes ≤ limit) }
-    ensures long { IsErrOf result ReadAll.TooLong → ConsumesMore (S.left src.old) (S.left src.new) limit }
-    ensures memory { IsErrOf result ReadAll.NoMemory → ConsumesMore (S.left src.old) (S.left src.new) 0 }
-    ensures memory_within { IsErrOf result ReadAll.NoMemory → ConsumesFewer (S.left src.old) (S.left src.new) (limit + 1) }
-    ensures lost { IsErrOf result ReadAll.Failed → ConsumesFewer (S.left src.old) (S.left src.new) (limit + 1) }
+    ensures long { IsErrOf result ReadAll.TooLong
+        → ConsumesMore (S.left src.old) (S.left src.new) limit }
+    ensures memory { IsErrOf result ReadAll.NoMemory
+        → ConsumesMore (S.left src.old) (S.left src.new) 0 }
+    ensures memory_within { IsErrOf result ReadAll.NoMemory
+        → ConsumesFewer (S.left src.old) (S.left src.new) (limit + 1) }
+    ensures lost { IsErrOf result ReadAll.Failed
+        → ConsumesFewer (S.left src.old) (S.left src.new) (limit + 1) }
     ensures opened { S.opened src.new ≡ is_left_open result }
 
     // What no answer changes.
-    ensures files { IsSameFiles (S.held src.old) (S.held src.new) (S.sure src.old) (S.sure src.new) }
+    ensures files { IsSameFiles (S.held src.old) (S.held src.new)
+        (S.sure src.old) (S.sure src.new) }
     ensures begins { S.begins src.new ≡ S.begins src.old }
 
     // A fault has its cause, and there is none where the file is safe.

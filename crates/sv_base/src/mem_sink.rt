@@ -1,5 +1,5 @@
-ghost use Rattle.std.specs.Prelude.{◌≡◌, ◌⊎◌, ◌↔◌, ◌-◌, ◌<◌, ◌≤◌, [], Some, false, is_err, IsErr, IsOk};
-ghost use Rattle.std.specs.Prelude.{IfOk, OnErr, Contains, length, min};
+ghost use Rattle.std.specs.Prelude.{◌≡◌, ◌⊎◌, ◌↔◌, ◌-◌, ◌<◌, ◌≤◌, [], Some, false, length, min};
+ghost use Rattle.std.specs.Prelude.{Contains, is_err, IsErr, IsOk, IfOk, OnErr};
 ghost use Rattle.std.specs.Io.KnownBytes.{WriteAppends};
 ghost use Rattle.sv_base.specs.Causes.{HasCause, one_more};
 
@@ -9,7 +9,8 @@ use std::alloc::Global;
 use std::marker::Model;
 use sv_prim::NoMemory;
 
-/// Bytes in memory, for tests: a [`Sink`] of which all is known, and whose calls fail where it is told to.
+/// Bytes in memory, for tests: a [`Sink`] of which all is known, and whose calls fail where it is
+/// told to.
 ///
 /// Calls of `write` are numbered from 1. A call fails whose number is in `fails`, and so does each
 /// call once `room` bytes are written. Every other call takes the whole piece, or as much of its
@@ -94,7 +95,8 @@ impl Sink for MemSink {
         requires { 0 < length piece.now }
         ensures some { IfOk result (λ count. 0 < count) }
         ensures bound { IfOk result (λ count. count ≤ length piece.now) }
-        ensures bytes { WriteAppends (Some self.old.written) (Some self.new.written) result piece.now }
+        ensures bytes { WriteAppends (Some self.old.written) (Some self.new.written)
+            result piece.now }
         ensures cause { HasCause self.old.faults self.new.faults result }
         ensures fault { OnErr result (self.new.faults ≡ one_more self.old.faults) }
         ensures broken { self.new.broken ≡ is_err result }
@@ -103,8 +105,10 @@ impl Sink for MemSink {
         // room for.
         ensures same { (self.new.room ≡ self.old.room) × (self.new.fails ≡ self.old.fails) }
         ensures call { self.new.calls ≡ one_more self.old.calls }
-        ensures fails { IsErr result ↔ (Contains self.old.fails self.new.calls ⊎ (length self.old.written ≡ self.old.room)) }
-        ensures count { IfOk result (λ count. count ≡ min (length piece.now) (self.old.room - length self.old.written)) }
+        ensures fails { IsErr result
+            ↔ (Contains self.old.fails self.new.calls ⊎ (length self.old.written ≡ self.old.room)) }
+        ensures count { IfOk result
+            (λ count. count ≡ min (length piece.now) (self.old.room - length self.old.written)) }
     {
         self.calls = self.calls.saturating_add(1);
         let count = piece.len().min(self.room - self.bytes.len());

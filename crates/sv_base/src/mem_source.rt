@@ -1,4 +1,6 @@
-ghost use Rattle.std.specs.Prelude.{◌≡◌, ◌⊎◌, ◌↔◌, ◌+◌, ◌^◌, ◌<◌, [], Some, None, IsTrue, IsOk, is_ok, IsErr, IsNone, IfOk, OnOk, OnErr, Contains, length, drop, min, false};
+ghost use Rattle.std.specs.Prelude.{◌≡◌, ◌⊎◌, ◌↔◌, ◌+◌, ◌^◌, ◌<◌, [], Some, None, false};
+ghost use Rattle.std.specs.Prelude.{Contains, IsTrue, IsOk, is_ok, IsErr, IsNone, IfOk};
+ghost use Rattle.std.specs.Prelude.{OnOk, OnErr, length, drop, min};
 ghost use Rattle.std.specs.Io.{ReadsAtMost};
 ghost use Rattle.std.specs.Io.KnownBytes.{ReadConsumes};
 ghost use Rattle.sv_base.specs.Causes.{HasCause, one_more};
@@ -9,10 +11,12 @@ use crate::failed::Failed;
 use crate::source::Source;
 use std::marker::Model;
 
-/// Files in memory, for tests: a [`Source`] of which all is known, and whose calls fail where it is told to.
+/// Files in memory, for tests: a [`Source`] of which all is known, and whose calls fail where it is
+/// told to.
 ///
 /// Of two files with one name the first is held. Calls of `begin` and `read` are numbered together,
-/// from 1. A call fails whose number is in `fails`, and so does a begin of a name that is not there.
+/// from 1. A call fails whose number is in `fails`, and so does a begin of a name that is not
+/// there.
 #[derive(Drop)]
 pub struct MemSource {
     files: Vec<(String, Vec<u8>)>,
@@ -31,13 +35,32 @@ impl Model for MemSource {
 
     ghost Value = { MemFiles };
 
-    ghost view = { λ s. record { files = files_of s.files.items; fails = s.fails.items; calls = s.calls; begins = s.begins; faults = s.faults; left = drop s.at (bytes_at (files_of s.files.items) s.file); begun = is_some s.file; opened = s.opened } };
+    ghost view = { λ s. record {
+      files = files_of s.files.items;
+      fails = s.fails.items;
+      calls = s.calls;
+      begins = s.begins;
+      faults = s.faults;
+      left = drop s.at (bytes_at (files_of s.files.items) s.file);
+      begun = is_some s.file;
+      opened = s.opened;
+    } };
 }
 
 impl MemSource {
-    /// A source of these files, of which none is begun. `fails` holds the numbers of the calls that fail.
+    /// A source of these files, of which none is begun. `fails` holds the numbers of the calls that
+    /// fail.
     pub fn new(files: Vec<(String, Vec<u8>)>, fails: Vec<u64>) -> MemSource
-        ensures { result ≡ record { files = files_of files.items; fails = fails.items; calls = 0; begins = 0; faults = 0; left = []; begun = false; opened = false } }
+        ensures { result ≡ record {
+          files = files_of files.items;
+          fails = fails.items;
+          calls = 0;
+          begins = 0;
+          faults = 0;
+          left = [];
+          begun = false;
+          opened = false;
+        } }
     {
         MemSource {
             files,
@@ -93,7 +116,9 @@ impl Source for MemSource {
 
     /// Looks through `fails` and through the names, one by one.
     fn begin(&mut self, name: &str) -> Result<(), Failed>
-        ensures files { IsSameFiles (bytes_of self.old.files) (bytes_of self.new.files) (IsSure self.old) (IsSure self.new) }
+        ensures files { IsSameFiles
+            (bytes_of self.old.files) (bytes_of self.new.files)
+            (IsSure self.old) (IsSure self.new) }
         ensures content { OnOk result (left_of self.new ≡ bytes_of self.old.files name.now) }
         ensures unopened { OnErr result (left_of self.new ≡ None) }
         ensures opened { self.new.opened ≡ is_ok result }
@@ -104,7 +129,8 @@ impl Source for MemSource {
         // It fails exactly where it is told to or the name is not there, and counts that.
         ensures same { (self.new.files ≡ self.old.files) × (self.new.fails ≡ self.old.fails) }
         ensures call { self.new.calls ≡ one_more self.old.calls }
-        ensures fails { IsErr result ↔ (Contains self.old.fails self.new.calls ⊎ IsNone (bytes_of self.old.files name.now)) }
+        ensures fails { IsErr result
+            ↔ (Contains self.old.fails self.new.calls ⊎ IsNone (bytes_of self.old.files name.now)) }
         ensures fault { OnErr result (self.new.faults ≡ one_more self.old.faults) }
     {
         self.begins = self.begins.saturating_add(1);
@@ -127,7 +153,9 @@ impl Source for MemSource {
     fn read(&mut self, buf: &mut [u8]) -> Result<usize, Failed>
         requires open { IsTrue self.old.opened }
         requires room { 0 < length buf.old }
-        ensures files { IsSameFiles (bytes_of self.old.files) (bytes_of self.new.files) (IsSure self.old) (IsSure self.new) }
+        ensures files { IsSameFiles
+            (bytes_of self.old.files) (bytes_of self.new.files)
+            (IsSure self.old) (IsSure self.new) }
         ensures bound { ReadsAtMost result buf.new }
         ensures bytes { ReadConsumes (left_of self.old) (left_of self.new) result buf.new }
         ensures opened { self.new.opened ≡ goes_on result }
@@ -135,7 +163,8 @@ impl Source for MemSource {
         ensures safe { self.old.fails ≡ [] → IsOk result × (self.new.fails ≡ []) }
         ensures cause { HasCause self.old.faults self.new.faults result }
 
-        // It fails exactly where it is told to, and counts that. Else it gives all that the buffer takes.
+        // It fails exactly where it is told to, and counts that. Else it gives all that the buffer
+        // takes.
         ensures same { (self.new.files ≡ self.old.files) × (self.new.fails ≡ self.old.fails) }
         ensures call { self.new.calls ≡ one_more self.old.calls }
         ensures fails { IsErr result ↔ Contains self.old.fails self.new.calls }

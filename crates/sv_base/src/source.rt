@@ -1,4 +1,5 @@
-ghost use Rattle.std.specs.Prelude.{◌≡◌, ℕ, ◌<◌, Bool, List, Option, IsTrue, IsOk, is_ok, length, None, OnOk, OnErr};
+ghost use Rattle.std.specs.Prelude.{◌≡◌, ℕ, ◌<◌, Bool, List, Option, None, length};
+ghost use Rattle.std.specs.Prelude.{IsTrue, IsOk, is_ok, OnOk, OnErr};
 ghost use Rattle.std.specs.Io.{ReadsAtMost};
 ghost use Rattle.std.specs.Io.KnownBytes.{ReadConsumes};
 ghost use Rattle.sv_base.specs.Causes.{HasCause, one_more};
@@ -30,13 +31,14 @@ pub trait Source {
     /// How often the device has failed. It stays at 2^64 - 1.
     ghost faults: { Self → ℕ };
 
-    /// Begins the file of this name at its front, and leaves the file that was open. What is left to be
-    /// read is what is held under the name, known or not.
+    /// Begins the file of this name at its front, and leaves the file that was open. What is left
+    /// to be read is what is held under the name, known or not.
     ///
-    /// Answers [`Failed`] only where the device failed, as for a name that is not there. Then no file
-    /// is open.
+    /// Answers [`Failed`] only where the device failed, as for a name that is not there. Then no
+    /// file is open.
     fn begin(&mut self, name: &str) -> Result<(), Failed>
-        ensures files { IsSameFiles (held self.old) (held self.new) (sure self.old) (sure self.new) }
+        ensures files { IsSameFiles (held self.old) (held self.new)
+            (sure self.old) (sure self.new) }
         ensures content { OnOk result (left self.new ≡ held self.old name.now) }
         ensures unopened { OnErr result (left self.new ≡ None) }
         ensures opened { opened self.new ≡ is_ok result }
@@ -51,7 +53,8 @@ pub trait Source {
     fn read(&mut self, buf: &mut [u8]) -> Result<usize, Failed>
         requires open { IsTrue (opened self.old) }
         requires room { 0 < length buf.old }
-        ensures files { IsSameFiles (held self.old) (held self.new) (sure self.old) (sure self.new) }
+        ensures files { IsSameFiles (held self.old) (held self.new)
+            (sure self.old) (sure self.new) }
         ensures bound { ReadsAtMost result buf.new }
         ensures bytes { ReadConsumes (left self.old) (left self.new) result buf.new }
         ensures opened { opened self.new ≡ goes_on result }

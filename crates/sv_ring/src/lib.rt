@@ -1,8 +1,8 @@
-//! Rings of bytes: what a writer that never waits and a reader promise each other, and a ring for one
-//! thread.
+//! Rings of bytes: what a writer that never waits and a reader promise each other, and a ring for
+//! one thread.
 //!
-//! The contract above this crate: a block is stored whole or refused, it is refused exactly where it
-//! is longer than the room, and a reader takes the bytes in the order in which they were stored.
+//! The contract above this crate: a block is stored whole or refused, it is refused exactly where
+//! it is longer than the room, and a reader takes the bytes in the order in which they were stored.
 //!
 //! The rules are those of an up buffer of SEGGER RTT in the mode "no block, skip": a buffer of S
 //! bytes holds at most S - 1, and a write with too little room is left out.

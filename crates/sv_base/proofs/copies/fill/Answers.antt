@@ -9,8 +9,11 @@ loop-filled-preserved g c =
     record {
       files = search rules;
       same = search rules;
-      bytes = filled_further (left c.args.src.now) (left c.loop-filled.src) (left c.read.new.self) c.loop-filled.buf c.read.new.buf c.loop-filled.filled (length c.loop-filled.buf - c.loop-filled.filled) c.in_ok-count.count
-          i.bytes c.in_ok-count.ensures.bytes.0 (omega (arith, i.within, i.same)) c.in_ok-count.ensures.bound.0;
+      bytes = filled_further (left c.args.src.now) (left c.loop-filled.src) (left c.read.new.self)
+          c.loop-filled.buf c.read.new.buf c.loop-filled.filled
+          (length c.loop-filled.buf - c.loop-filled.filled) c.in_ok-count.count
+          i.bytes c.in_ok-count.ensures.bytes.0 (omega (arith, i.within, i.same))
+          c.in_ok-count.ensures.bound.0;
       within = search rules;
       opened = search rules;
       begins = search rules;

@@ -5,7 +5,8 @@ use Rattle.sv_base.proofs.copies.fill.Given as goal
 
 abbrev pub invariant-loop-filled : goal.invariant-loop-filled
 invariant-loop-filled g l = record {
-  files : IsSameFiles (g.S.Source.held l.fn.src) (g.S.Source.held l.src) (g.S.Source.sure l.fn.src) (g.S.Source.sure l.src);
+  files : IsSameFiles (g.S.Source.held l.fn.src) (g.S.Source.held l.src) (g.S.Source.sure l.fn.src)
+      (g.S.Source.sure l.src);
   same : length l.buf ≡ length l.fn.buf;
   bytes : Consumes (g.S.Source.left l.fn.src) (g.S.Source.left l.src) (take l.filled l.buf);
   within : l.filled ≤ length l.fn.buf;

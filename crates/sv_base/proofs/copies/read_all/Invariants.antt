@@ -5,7 +5,8 @@ use Rattle.sv_base.proofs.copies.read_all.Given as goal
 
 abbrev pub invariant-loop-count : goal.invariant-loop-count
 invariant-loop-count g l = record {
-  files : IsSameFiles (g.S.Source.held l.fn.src) (g.S.Source.held l.src) (g.S.Source.sure l.fn.src) (g.S.Source.sure l.src);
+  files : IsSameFiles (g.S.Source.held l.fn.src) (g.S.Source.held l.src) (g.S.Source.sure l.fn.src)
+      (g.S.Source.sure l.src);
   bytes : Consumes (g.S.Source.left l.fn.src) (g.S.Source.left l.src) l.bytes.items;
   within : vec_len l.bytes ≤ l.limit;
   opened : g.S.Source.opened l.src ≡ true;

@@ -2,4 +2,4 @@ pub mod Writing
 pub mod Reading
 pub mod Places
 pub mod Blames
-pub mod Laws
+pub mod Shared

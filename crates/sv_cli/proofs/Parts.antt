@@ -5,7 +5,7 @@ use Rattle.std.specs.Io.KnownBytes.{Appends}
 use Rattle.std.proofs.lemmas.List.{append-nil, length-take, take-append-drop, take-append-le}
 use Rattle.std.proofs.Math.Seq.{take-append_seam, take-append-add}
 use Rattle.sv_base.specs.Streams.{AppendsPart}
-use Rattle.sv_base.proofs.Laws.{Appends-then}
+use Rattle.sv_base.proofs.Shared.{Appends-then}
 
 -- a fact stands whatever the error is
 pub on_err : {T E : Type 0} {P : Type 0} (r : Result T E) → P → OnErr r P

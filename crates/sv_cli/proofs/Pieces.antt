@@ -6,7 +6,7 @@ use Rattle.std.specs.Io.KnownBytes.{Appends, Consumes, IsAtEnd}
 use Rattle.sv_prim.specs.declared.got.Reason.{Reason}
 use Rattle.sv_prim.specs.Text.{AreBytes}
 use Rattle.sv_base.specs.Streams.{AppendsPart, ConsumesFewer}
-use Rattle.sv_base.proofs.Laws.{Consumes-then, Appends-then}
+use Rattle.sv_base.proofs.Shared.{Consumes-then, Appends-then}
 use Rattle.sv_packet.specs.declared.event.Packet.{Packet}
 use Rattle.sv_packet.specs.declared.event.TimedEvent.{TimedEvent}
 use Rattle.sv_packet.specs.Time.{timed}

@@ -6,7 +6,7 @@ use std::env;
 use std::io::ErrorKind;
 use std::process::ExitCode;
 use sv_base::{FileSource, OutSink, Stream};
-use sv_cli::{Status, offline, tell};
+use sv_cli::{Status, offline, say};
 use sv_recorder::Journal;
 
 /// The texts as words.
@@ -18,7 +18,7 @@ fn words(alloc: Global, texts: &[String]) -> Result<Vec<&str>, AllocError> {
     Ok(words)
 }
 
-/// The words behind the program's name. Words that are no text are no command, and those of
+/// The words after the program's name. Words that are no text are no command, and those of
 /// which there is no memory for a copy end the program as any want of it does.
 fn texts(rt: HostRuntime) -> Result<Vec<String>, Status> {
     let args = match env::args(&rt) {
@@ -41,12 +41,12 @@ fn run(rt: HostRuntime) -> Status {
     let texts = match texts(rt) {
         Ok(texts) => texts,
         Err(status) => {
-            tell(&mut err, &status);
+            say(&mut err, &status);
             return status;
         }
     };
     let Ok(words) = words(alloc, &texts) else {
-        tell(&mut err, &Status::NoMemory);
+        say(&mut err, &Status::NoMemory);
         return Status::NoMemory;
     };
     let mut src = FileSource::new(rt);

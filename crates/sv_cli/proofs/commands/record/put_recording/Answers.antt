@@ -1,4 +1,4 @@
-use Rattle.sv_base.proofs.Laws.{Appends-then}
+use Rattle.sv_base.proofs.Shared.{Appends-then}
 use Rattle.sv_cli.specs.Recorded.{header}
 use Rattle.sv_cli.proofs.Parts.{part_more}
 use Rattle.sv_cli.proofs.Parts.{on_err, part_after}

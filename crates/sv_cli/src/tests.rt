@@ -50,7 +50,7 @@ fn synced(alloc: Global, bytes: &[u8]) -> Result<Vec<u8>, Fail> {
     Ok(file)
 }
 
-/// Nothing but ten zeros, and what stands before and behind them.
+/// Nothing but ten zeros, and what stands before and after them.
 #[test]
 fn recordings_and_their_texts(rt: HostRuntime) -> Result<(), Fail> {
     let alloc = rt.alloc();
@@ -189,7 +189,24 @@ fn devices_that_fail(rt: HostRuntime) -> Result<(), Fail> {
     Ok(())
 }
 
-/// Whether the words are no command, and the error sink is told so.
+/// A damaged first piece of 4096 bytes, and more bytes: their source would fail at the next read.
+#[test]
+fn nothing_is_read_after_damage(rt: HostRuntime) -> Result<(), Fail> {
+    let alloc = rt.alloc();
+    let mut file = synced(alloc, &[0x0a, 0x00, 0x17])?;
+    for _ in 0..9000 {
+        file.push(0x00)?;
+    }
+    for command in ["events", "check"] {
+        let shown = run(alloc, &[command, "f"], &file, &[3], &[])?;
+        let place = 12;
+        assert_eq!(rt; shown.status, Status::Damaged { place, reason: 2 });
+        assert!(rt; shown.out.bytes().ends_with(b"end damaged 12 2\n"));
+    }
+    Ok(())
+}
+
+/// Whether the words are no command, and the error sink has the usage line.
 fn is_usage(alloc: Global, words: &[&str]) -> Result<bool, Fail> {
     let run = run(alloc, words, &[], &[], &[])?;
     Ok(
@@ -235,7 +252,7 @@ fn words_and_codes(rt: HostRuntime) -> Result<(), Fail> {
         (Status::Unbuilt { place: 12 }, 11, "not built at 12\n"),
     ] {
         let mut err = sink(alloc, &[])?;
-        tell(&mut err, &status);
+        say(&mut err, &status);
         assert_eq!(rt; status.code(), code);
         assert_eq!(rt; err.bytes(), line.as_bytes());
     }

@@ -44,7 +44,7 @@ ticks_most line fit = ticks_of line.advance (and_parts _ _ (not-false _ fit.numb
 -- ---- texts
 
 -- the text of a fit line is no longer than its form says
-text_most : (line : Line) (word : Keyword) (most : ℕ) → line.keyword ≡ word → (form_of word).text ≡ Some most → IsFit line → length (text_of line) ≤ most
+pub text_most : (line : Line) (word : Keyword) (most : ℕ) → line.keyword ≡ word → (form_of word).text ≡ Some most → IsFit line → length (text_of line) ≤ most
 text_most line word most e some fit =
     let text = text_of line in
     let there : option_map_or (λ m. not (nat_le (length text) m && list_all is_printable text)) (form_of word).text false ≡ false =

@@ -1,5 +1,5 @@
 -- A workload in the making: what the lines so far told.
-use Rattle.std.specs.Prelude.{◌≡◌, ◌≤◌, Bool, true, false, not, List, [], ◌∷◌, ◌++◌, length, filter_map, None}
+use Rattle.std.specs.Prelude.{◌≡◌, ◌≤◌, Bool, true, false, not, List, [], ◌∷◌, ◌++◌, length, filter_map, None, All}
 use Rattle.std.specs.List.{list_all}
 use Rattle.sv_workload.specs.declared.settings.Settings.{Settings}
 use Rattle.sv_workload.specs.declared.load.Task.{Task}
@@ -25,10 +25,11 @@ pub record Draft : Type 0 where
   pub scheduled : Bool
   pub schedule : List Action
 
--- the settings are of their ranges, and the tasks, writers and turns are few
+-- the settings are of their ranges, the tasks, writers and turns are few, and the tasks' names are short
 pub record IsSound (settings : Settings) (tasks : List Task) (scripts : List (List Step)) (schedule : List Action) : Type 0 where
   pub ranges : AreInRange settings
   pub few_tasks : length tasks ≤ 32
+  pub names : All (λ task. length task.name ≤ 128) tasks
   pub few_scripts : length scripts ≤ 16
   pub few_turns : length schedule ≤ 1048576
 

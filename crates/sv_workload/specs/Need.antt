@@ -58,6 +58,12 @@ IsStepAct (Event event) = IsRecordable event × (length (spelling_of event 0) �
 IsStepAct Start = Unit {0}
 IsStepAct Stop = Unit {0}
 
+-- each line, and each name of a task or module, has at most 128 bytes
+pub record HasShortTexts (load : Load) : Type 0 where
+  pub lines : All (λ text. length text ≤ 128) load.lines
+  pub tasks : All (λ task. length task.name ≤ 128) load.tasks
+  pub modules : All (λ row. length row.name ≤ 128) load.modules
+
 -- the ranges of the settings, and the most of everything that a workload holds
 pub record IsWithinLimits (load : Load) : Type 0 where
   pub ring_least : 64 ≤ load.ring
@@ -75,6 +81,7 @@ pub record IsWithinLimits (load : Load) : Type 0 where
   pub turns : length load.schedule ≤ 1048576
   pub advances : All (λ script. All (λ s. s.advance ≤ 8589934592) script) load.scripts
   pub acts : All (λ script. All (λ s. IsStepAct s.act) script) load.scripts
+  pub texts : HasShortTexts load
 
 -- the need is that of the workload, which is within the limits
 pub record HasNeed (load : Load) (need : Need) : Type 0 where

@@ -33,7 +33,8 @@ impl Draft {
 
     /// One more task, behind the others.
     fn add_task(&mut self, task: Task) -> Result<(), NoMemory>
-        requires { length self.old.tasks < 32 }
+        requires few { length self.old.tasks < 32 }
+        requires name { length task.name ≤ 128 }
         ensures { OnOk result (self.new ≡ record self.old { tasks = self.old.tasks ++ task ∷ [] }) }
     {
         if self.tasks.push(task).is_err() {

@@ -1,8 +1,11 @@
-use Rattle.std.proofs.Common.{◌≡◌, ℕ, [], ◌∷◌, ◌++◌, true, sym, ap, subst, ◌∙◌}
+use Rattle.std.proofs.Common.{◌≡◌, ℕ, ◌≤◌, length, refl, arith, [], ◌∷◌, ◌++◌, true, sym, ap, subst, ◌∙◌}
 use Rattle.std.specs.List.{list_all}
 use Rattle.std.proofs.lemmas.Result.{on_ok_weaker}
 use Rattle.sv_workload.specs.declared.load.Task.{Task}
 use Rattle.sv_workload.specs.declared.keyword.Keyword.TheVariants.{Setup}
+use Rattle.sv_workload.specs.declared.keyword.SetupWord.TheVariants as setup
+use Rattle.sv_workload.specs.Line.{text_of}
+use Rattle.sv_workload.proofs.FitSteps.{text_most}
 use Rattle.sv_workload.specs.Forms.{is_in, form_of}
 use Rattle.sv_workload.specs.Settings.{tell}
 use Rattle.sv_workload.specs.Meaning.{task_of}
@@ -12,10 +15,20 @@ use Rattle.sv_workload.proofs.Growing.{stands-task}
 use Rattle.sv_workload.proofs.Rooms.{fit_of, room_for_task, tells, told}
 use Rattle.sv_workload.proofs.draft.Draft.add_setup.Goals as goal
 
-pub add_task-requires : goal.add_task-requires
-add_task-requires c =
+pub add_task-requires-clause-few : goal.add_task-requires-clause-few
+add_task-requires-clause-few c =
     let good = c.requires.good in
     room_for_task c.args.self.now good.0 c.args.line.now good.1 (passes good.0 c.args.line.now good.2) (c.requires.keyword ∙ ap Setup c.in-Task.is)
+
+pub add_task-requires-clause-name : goal.add_task-requires-clause-name
+add_task-requires-clause-name c =
+    let good = c.requires.good in
+    let line = c.args.line.now in
+    let e = c.requires.keyword ∙ ap Setup c.in-Task.is in
+    let fit = fit_of good.0 line (passes good.0 line good.2) in
+    let task : c.in_ok-task-in-Task.task ≡ task_of line = c.in_ok-task-in-Task.ensures line e fit c.requires.numbers c.text_behind.ensures in
+    let short : length (text_of line) ≤ 32 = text_most line (Setup setup.Task) 32 e refl fit in
+    omega (arith, short, ap (λ (t : Task). length t.name) task)
 
 pub add_setting-requires : goal.add_setting-requires
 add_setting-requires c =

@@ -1,11 +1,13 @@
 -- What a step line that fits says, and the step that it makes.
 use Rattle.std.proofs.Common.{◌≡◌, ℕ, ◌-◌, ◌^◌, ◌≤◌, Bool, true, false, cond, ◌&&◌, not, nat_le, List, [], ◌∷◌, length, take, map, min, get_or, Option, Some, None, refl, sym, ap, subst, ◌∙◌, arith}
-use Rattle.std.specs.Prelude.{unwrap_or, option_and_then}
-use Rattle.std.specs.List.{list_all}
+use Rattle.std.specs.Prelude.{unwrap_or, option_and_then, drop, ◌<◌}
+use borrow.Author.Tests.{ltb-true}
+use Rattle.std.specs.List.{list_all, join_with_byte}
 use Rattle.std.specs.Option.{option_map_or}
 use Rattle.std.proofs.Math.Nat.{min-eq_left, min-le_left}
 use Rattle.std.proofs.lemmas.Bool.{and_parts, leb-true, not-false}
 use Rattle.std.proofs.lemmas.List.{length-map, length-take}
+use Rattle.sv_prim.specs.Number.{AreWords}
 use Rattle.sv_workload.specs.declared.keyword.SetupWord.TheVariants as setup
 use Rattle.sv_workload.specs.declared.keyword.ActWord.{ActWord}
 use Rattle.sv_workload.specs.declared.keyword.ActWord.TheVariants.{Name, Print, Call}
@@ -17,13 +19,13 @@ use Rattle.sv_workload.specs.Words.{number_of}
 use Rattle.sv_workload.specs.Keywords.{is_same}
 use Rattle.sv_workload.specs.Forms.{between, is_in, form_of}
 use Rattle.sv_workload.specs.Line.{Line, numbers_of, text_of}
-use Rattle.sv_workload.specs.Checks.{fits, fits_command, is_printable, is_within, are_within}
+use Rattle.sv_workload.specs.Checks.{fits, fits_command, is_word, is_printable, is_within, are_within}
 use Rattle.sv_workload.specs.Meaning.{act_of, with_shrunk, step_by}
 use Rattle.sv_workload.specs.Need.{IsStepAct}
 use Rattle.sv_workload.specs.Numbers.{capped}
 use Rattle.sv_workload.specs.Fit.{IsFit}
 use Rattle.sv_workload.proofs.Capping.{ranges, number_or_0, numbers_behind, in_ranges, act_numbers}
-use Rattle.sv_workload.proofs.StepActs.{IsKeptTo, step_act}
+use Rattle.sv_workload.proofs.StepActs.{IsKeptTo, step_act, capped_words, shrunk_words, printable_bytes}
 
 -- ---- ticks
 
@@ -52,6 +54,23 @@ text_most line word most e some fit =
     let good : not (nat_le (length text) most && list_all is_printable text) ≡ false =
     subst (λ (o : Option ℕ). option_map_or (λ m. not (nat_le (length text) m && list_all is_printable text)) o false ≡ false) some there in
     leb-true (length text) most (and_parts (nat_le (length text) most) (list_all is_printable text) (not-false _ good)).0
+
+-- the name of a task is not empty
+pub task_named : (line : Line) → line.keyword ≡ keyword.Setup setup.Task → IsFit line → 1 ≤ length (text_of line)
+task_named line e fit =
+    let shaped : (list_all is_word (take 5 line.words) && is_word (join_with_byte 32 (drop 5 line.words))) ≡ true = not-false _ (rw e at fit.shape) in
+    let some : 0 < length (join_with_byte 32 (drop 5 line.words)) = ltb-true 0 (length (join_with_byte 32 (drop 5 line.words))) (and_parts (list_all is_word (take 5 line.words)) (is_word (join_with_byte 32 (drop 5 line.words))) shaped).1 in
+    subst (λ (k : Keyword). 1 ≤ length (join_with_byte 32 (drop (length (form_of k).numbers) line.words))) (sym e) (omega (arith, some))
+
+-- and it can be printed
+text_printable : (line : Line) (word : Keyword) (most : ℕ) → line.keyword ≡ word → (form_of word).text ≡ Some most → IsFit line → list_all is_printable (text_of line) ≡ true
+text_printable line word most e some fit =
+    let text = text_of line in
+    let there : option_map_or (λ m. not (nat_le (length text) m && list_all is_printable text)) (form_of word).text false ≡ false =
+    subst (λ (k : Keyword). option_map_or (λ m. not (nat_le (length text) m && list_all is_printable text)) (form_of k).text false ≡ false) e fit.text in
+    let good : not (nat_le (length text) most && list_all is_printable text) ≡ false =
+    subst (λ (o : Option ℕ). option_map_or (λ m. not (nat_le (length text) m && list_all is_printable text)) o false ≡ false) some there in
+    (and_parts (nat_le (length text) most) (list_all is_printable text) (not-false _ good)).1
 
 -- ---- calls
 
@@ -93,6 +112,9 @@ kept_to line word e fit = record {
   least = λ is. (call_numbers line (e ∙ ap keyword.Act is) fit).0;
   most = λ is. (call_numbers line (e ∙ ap keyword.Act is) fit).1;
   few = λ is. (call_numbers line (e ∙ ap keyword.Act is) fit).2;
+  words = subst AreWords (act_numbers line word e fit) (capped_words (numbers_of line));
+  name_bytes = λ is. printable_bytes (text_of line) (text_printable line (keyword.Act Name) 128 (e ∙ ap keyword.Act is) refl fit);
+  print_bytes = λ is. printable_bytes (text_of line) (text_printable line (keyword.Act Print) 128 (e ∙ ap keyword.Act is) refl fit);
 }
 
 -- what was read of a line that fits keeps to it too
@@ -112,6 +134,9 @@ shrunk_kept word base shift numbers text is =
       least = λ e. subst (λ (l : List ℕ). 32 ≤ get_or l 0 0) (same e) (is.least e);
       most = λ e. subst (λ (l : List ℕ). get_or l 0 0 ≤ 16383) (same e) (is.most e);
       few = λ e. subst (λ (l : List ℕ). length l ≤ 9) (same e) (is.few e);
+      words = shrunk_words (form_of (keyword.Act word)).identifier base shift numbers is.words;
+      name_bytes = is.name_bytes;
+      print_bytes = is.print_bytes;
     }
 
 -- a step that was made of what was read of a line

@@ -22,3 +22,4 @@ pub mod Passed
 pub mod Growing
 pub mod Rooms
 pub mod Walking
+pub mod Turns

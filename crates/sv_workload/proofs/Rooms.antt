@@ -199,20 +199,26 @@ second_false : (a b : Bool) → a ≡ true → (a && b) ≡ false → b ≡ fals
 second_false true b t e = e
 second_false false b t e = cc
 
+-- a turn's writer is there
+pub less_than_writers : (old : Draft) (lines : List Line) (line : Line) → Stands old lines → Passes lines line → line.keyword ≡ keyword.Turn turn.Step → number line 0 < length old.scripts
+less_than_writers old lines line stands passed e =
+    let turn : says (keyword.Turn turn.Step) line ≡ true = rw e refl in
+    let left : number line 0 < count keyword.Writer lines = fewer (count keyword.Writer lines) (number line 0) (second_false _ _ turn passed.writer) in
+    omega (arith, left, ap length stands.scripts, scripts_count lines)
+
+-- a read takes a number of its range
+pub read_inside : (line : Line) → IsFit line → line.keyword ≡ keyword.Turn turn.Read → is_in (between 1 65536) (number line 0) ≡ true
+read_inside line fit e =
+    let filled : nat_le 1 (length line.words) ≡ true = first_and _ _ _ (rw e at fit.shape) in
+    subst (λ (k : Keyword). is_in (between 1 65536) (get_or (numbers_behind k line.words) 0 0) ≡ true) (sym e) (one_in (between 1 65536) line.words filled (in_ranges line (keyword.Turn turn.Read) e fit))
+
 -- a writer's number is small, since the writer is there
 module _ (old : Draft) (lines : List Line) (line : Line) (stands : Stands old lines) (passed : Passes lines line) (few : length old.scripts ≤ 16) (fit : IsFit line) where
   low_step : line.keyword ≡ keyword.Turn turn.Step → number line 0 < 2 ^ 32
-  low_step e =
-      let turn : says (keyword.Turn turn.Step) line ≡ true = rw e refl in
-      let left : number line 0 < count keyword.Writer lines = fewer (count keyword.Writer lines) (number line 0) (second_false _ _ turn passed.writer) in
-      omega (arith, left, few, ap length stands.scripts, scripts_count lines)
+  low_step e = omega (arith, less_than_writers old lines line stands passed e, few)
 
   low_read : line.keyword ≡ keyword.Turn turn.Read → number line 0 < 2 ^ 32
-  low_read e =
-      let filled : nat_le 1 (length line.words) ≡ true = first_and _ _ _ (rw e at fit.shape) in
-      let inside : is_in (between 1 65536) (number line 0) ≡ true =
-      subst (λ (k : Keyword). is_in (between 1 65536) (get_or (numbers_behind k line.words) 0 0) ≡ true) (sym e) (one_in (between 1 65536) line.words filled (in_ranges line (keyword.Turn turn.Read) e fit)) in
-      low_in 1 65536 (number line 0) refl inside
+  low_read e = low_in 1 65536 (number line 0) refl (read_inside line fit e)
 
   pub low_turn : (word : TurnWord) → line.keyword ≡ keyword.Turn word → is_later line.keyword ≡ false → number line 0 < 2 ^ 32
   low_turn turn.Step e now = low_step e

@@ -1,6 +1,8 @@
 -- A workload as contracts see it: the settings, what there is to describe, and what each writer and the host do.
-use Rattle.std.specs.Prelude.{ℕ, ◌+◌, ◌^◌, sum_by, Bool, List, [], Option, slice_get, slice_index_or}
+use Rattle.std.specs.Prelude.{ℕ, ◌+◌, ◌^◌, sum_by, Bool, true, false, List, [], Option, slice_get, slice_index_or}
 use Rattle.std.specs.Option.{option_map, option_map_or}
+use Rattle.sv_packet.specs.declared.event.Event.{Event}
+use Rattle.sv_packet.specs.declared.event.Event.TheVariants.{Overflow, TraceStart, TraceStop}
 use Rattle.sv_workload.specs.declared.load.Task.{Task}
 use Rattle.sv_workload.specs.declared.load.ModuleRow.{ModuleRow}
 use Rattle.sv_workload.specs.declared.load.Command.{Command}
@@ -35,6 +37,13 @@ step_of load writer step = slice_get (script_of load writer) step
 -- what a step does
 abbrev pub act_of : Load → ℕ → ℕ → Option Act
 act_of load writer step = option_map (λ s. s.act) (step_of load writer step)
+
+-- an event that tells of a break: packets were lost, or the recorder was off
+abbrev pub is_break : Event → Bool
+is_break (Overflow count) = true
+is_break TraceStart = true
+is_break TraceStop = true
+is_break event = false
 
 -- the ticks that pass before a step
 abbrev pub advance_of : Load → ℕ → ℕ → ℕ

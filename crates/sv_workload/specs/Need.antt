@@ -1,11 +1,16 @@
 -- How many items and bytes a journal of a workload and its stream have at most.
 use Rattle.std.specs.Prelude.{◌≡◌, ℕ, ◌+◌, ◌*◌, ◌<◌, ◌≤◌, length, sum_by, Bool, true, false, All}
-use Rattle.sv_packet.specs.Spelling.{spelling_of, IsRecordable}
+use Rattle.sv_packet.specs.Spelling.{spelling_of, HasRange, IsRecordable}
 use Rattle.sv_workload.specs.declared.load.Act.{Act}
 use Rattle.sv_workload.specs.declared.load.Act.TheVariants.{Event, Start, Stop}
 use Rattle.sv_workload.specs.declared.load.Step.{Step}
 use Rattle.sv_workload.specs.declared.load.Need.{Need}
-use Rattle.sv_workload.specs.Load.{Load}
+use Rattle.sv_workload.specs.declared.load.Task.{Task}
+use Rattle.sv_workload.specs.declared.load.Action.{Action}
+use Rattle.sv_workload.specs.declared.load.Action.TheVariants as actions
+use Rattle.sv_workload.specs.declared.load.Command.{Command}
+use Rattle.sv_workload.specs.declared.load.ModuleRow.{ModuleRow}
+use Rattle.sv_workload.specs.Load.{Load, is_break, offset_after}
 
 abbrev pub is_start_act : Act → Bool
 is_start_act Start = true
@@ -52,9 +57,9 @@ abbrev pub need_bytes : Load → ℕ
 need_bytes load = 16 + over_steps (λ s. act_bytes s.act) load + (starts_in load + length load.commands) * (27 + 156 * replies_in load)
 
 -- what a step may do: it records an event that a recorder takes, in a packet no longer than that of the name of a
--- resource with 128 bytes; or it starts or stops the recorder
+-- resource with 128 bytes, and that tells of no break; or it starts or stops the recorder
 abbrev pub IsStepAct : Act → Type 0
-IsStepAct (Event event) = IsRecordable event × (length (spelling_of event 0) ≤ 138)
+IsStepAct (Event event) = IsRecordable event × (length (spelling_of event 0) ≤ 138) × HasRange event × (is_break event ≡ false)
 IsStepAct Start = Unit {0}
 IsStepAct Stop = Unit {0}
 
@@ -63,6 +68,20 @@ pub record HasShortTexts (load : Load) : Type 0 where
   pub lines : All (λ text. length text ≤ 128) load.lines
   pub tasks : All (λ task. length task.name ≤ 128) load.tasks
   pub modules : All (λ row. length row.name ≤ 128) load.modules
+
+-- a task has a name, of at most 32 bytes
+abbrev pub IsTask : Task → Type 0
+IsTask task = (1 ≤ length task.name) × (length task.name ≤ 32)
+
+-- a parameter goes with the bytes from 128 on, and is 0 for the others
+abbrev pub IsAsked : Command → Type 0
+IsAsked command = (command.byte < 256) × (command.param < 256) × (command.byte < 128 → command.param ≡ 0)
+
+-- a turn of the schedule, where there are so many writers
+abbrev pub IsTurn : ℕ → Action → Type 0
+IsTurn writers (actions.Step writer count) = (writer < writers) × (1 ≤ count) × (count ≤ 1048576)
+IsTurn writers (actions.Read most) = (1 ≤ most) × (most ≤ 65536)
+IsTurn writers actions.Send = Unit {0}
 
 -- the ranges of the settings, and the most of everything that a workload holds
 pub record IsWithinLimits (load : Load) : Type 0 where
@@ -82,6 +101,12 @@ pub record IsWithinLimits (load : Load) : Type 0 where
   pub advances : All (λ script. All (λ s. s.advance ≤ 8589934592) script) load.scripts
   pub acts : All (λ script. All (λ s. IsStepAct s.act) script) load.scripts
   pub texts : HasShortTexts load
+  pub line_texts : All (λ text. 1 ≤ length text) load.lines
+  pub task_names : All IsTask load.tasks
+  pub module_names : All (λ row. 1 ≤ length row.name) load.modules
+  pub module_events : offset_after load.modules ≤ 16384
+  pub asked : All IsAsked load.commands
+  pub schedule : All (IsTurn (length load.scripts)) load.schedule
 
 -- the need is that of the workload, which is within the limits
 pub record HasNeed (load : Load) (need : Need) : Type 0 where

@@ -6,7 +6,7 @@ ghost use Rattle.sv_workload.specs.declared.keyword.Keyword.TheVariants.{Setup, 
 ghost use Rattle.sv_workload.specs.Forms.{is_in, form_of};
 ghost use Rattle.sv_workload.specs.Line.{numbers_of};
 ghost use Rattle.sv_workload.specs.Numbers.{capped};
-ghost use Rattle.sv_workload.specs.Need.{one_if, is_start_act, IsStepAct};
+ghost use Rattle.sv_workload.specs.Need.{one_if, is_start_act, IsStepAct, IsTask, IsTurn};
 ghost use Rattle.sv_workload.specs.Settings.{tell};
 ghost use Rattle.sv_workload.specs.Scripts.{onto_last, over_scripts};
 ghost use Rattle.sv_workload.specs.Draft.{IsGoodBehind, HasTaken, is_later};
@@ -34,7 +34,7 @@ impl Draft {
     /// One more task, behind the others.
     fn add_task(&mut self, task: Task) -> Result<(), NoMemory>
         requires few { length self.old.tasks < 32 }
-        requires name { length task.name ≤ 128 }
+        requires name { IsTask task }
         ensures { OnOk result (self.new ≡ record self.old { tasks = self.old.tasks ++ task ∷ [] }) }
     {
         if self.tasks.push(task).is_err() {
@@ -72,7 +72,8 @@ impl Draft {
 
     /// One more turn, behind the others.
     fn add_turn(&mut self, action: Action) -> Result<(), NoMemory>
-        requires { length self.old.schedule < 1048576 }
+        requires few { length self.old.schedule < 1048576 }
+        requires turn { IsTurn (length self.old.scripts) action }
         ensures { OnOk result (self.new ≡ record self.old { schedule = self.old.schedule ++ action ∷ [] }) }
     {
         if self.schedule.push(action).is_err() {

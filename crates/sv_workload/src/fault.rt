@@ -9,7 +9,7 @@ use thiserror::Error;
 pub enum WorkFault {
     /// This line, counted from 1, is the first with a fault, and the reason says which (1 to 10).
     #[error("workload line {line} reason {reason}")]
-    Line { line: u64, reason: u8 },
+    Line { line: u32, reason: u8 },
     /// There was too little memory for the workload.
     #[error("no memory")]
     NoMemory,

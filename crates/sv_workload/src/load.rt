@@ -1,7 +1,8 @@
 //! Workloads and their parts.
-ghost use Rattle.std.specs.Prelude.{◌≡◌, ◌<◌, ◌≤◌, length, map};
+ghost use Rattle.std.specs.Prelude.{◌≡◌, ◌<◌, ◌≤◌, All, length, map};
 ghost use Rattle.sv_workload.specs.Load.{script_of};
 ghost use Rattle.sv_workload.specs.Need.{need_items, need_bytes, IsWithinLimits, HasNeed};
+ghost use Rattle.sv_workload.specs.Need.{IsStepAct, IsTask, IsAsked, IsTurn};
 ghost use Rattle.sv_workload.specs.Draft.{load_by};
 
 use crate::settings::Settings;
@@ -67,14 +68,16 @@ pub struct Need {
     pub bytes: u64,
 }
 
-/// A registered module: how many events it may send, and what describes them. Modules are numbered in their order.
+/// A registered module: how many events it may send, and what describes them. Modules are numbered in
+/// their order.
 #[derive(Debug, Drop)]
 pub struct ModuleRow {
     pub events: u32,
     pub name: Bytes,
 }
 
-/// What the writers of a run do: the settings, what there is to describe, and what each writer and the host do.
+/// What the writers of a run do: the settings, what there is to describe, and what each writer and
+/// the host do.
 #[derive(Debug, Drop)]
 pub struct Workload {
     ring: u32,
@@ -100,9 +103,37 @@ impl Model for Workload {
 
     ghost Value = { Load };
 
-    ghost view = { λ w. record { ring = w.ring; clock = w.clock; cpu = w.cpu; base = w.base; shift = w.shift; timed = w.timed; lines = w.lines.items; tasks = w.tasks.items; modules = w.modules.items; commands = w.commands.items; scripts = map (λ s. s.items) w.writers.items; scheduled = w.scheduled; schedule = w.schedule.items } };
+    ghost view = { λ w. record {
+      ring = w.ring;
+      clock = w.clock;
+      cpu = w.cpu;
+      base = w.base;
+      shift = w.shift;
+      timed = w.timed;
+      lines = w.lines.items;
+      tasks = w.tasks.items;
+      modules = w.modules.items;
+      commands = w.commands.items;
+      scripts = map (λ s. s.items) w.writers.items;
+      scheduled = w.scheduled;
+      schedule = w.schedule.items;
+    } };
 
-    ghost invariant = { λ w. HasNeed (record { ring = w.ring; clock = w.clock; cpu = w.cpu; base = w.base; shift = w.shift; timed = w.timed; lines = w.lines.items; tasks = w.tasks.items; modules = w.modules.items; commands = w.commands.items; scripts = map (λ s. s.items) w.writers.items; scheduled = w.scheduled; schedule = w.schedule.items }) w.need };
+    ghost invariant = { λ w. HasNeed (record {
+      ring = w.ring;
+      clock = w.clock;
+      cpu = w.cpu;
+      base = w.base;
+      shift = w.shift;
+      timed = w.timed;
+      lines = w.lines.items;
+      tasks = w.tasks.items;
+      modules = w.modules.items;
+      commands = w.commands.items;
+      scripts = map (λ s. s.items) w.writers.items;
+      scheduled = w.scheduled;
+      schedule = w.schedule.items;
+    }) w.need };
 }
 
 impl Workload {
@@ -116,8 +147,20 @@ impl Workload {
         schedule: Vec<Action>,
         need: Need,
     ) -> Workload
-        requires { HasNeed (load_by (record { settings = settings; tasks = tasks.items; scripts = map (λ script. script.items) writers.items; scheduled = scheduled; schedule = schedule.items })) need }
-        ensures { result ≡ load_by (record { settings = settings; tasks = tasks.items; scripts = map (λ script. script.items) writers.items; scheduled = scheduled; schedule = schedule.items }) }
+        requires { HasNeed (load_by (record {
+          settings = settings;
+          tasks = tasks.items;
+          scripts = map (λ script. script.items) writers.items;
+          scheduled = scheduled;
+          schedule = schedule.items;
+        })) need }
+        ensures { result ≡ load_by (record {
+          settings = settings;
+          tasks = tasks.items;
+          scripts = map (λ script. script.items) writers.items;
+          scheduled = scheduled;
+          schedule = schedule.items;
+        }) }
     {
         Workload {
             ring: settings.ring(),
@@ -184,24 +227,30 @@ impl Workload {
         self.timed
     }
 
-    /// The lines that describe the system.
+    /// The lines that describe the system, at most four of 1 to 128 bytes.
     pub fn lines(&self) -> &[Bytes]
-        ensures { result.now ≡ self.now.lines }
+        ensures told { result.now ≡ self.now.lines }
+        ensures few { length result.now ≤ 4 }
+        ensures some { All (λ text. 1 ≤ length text) result.now }
+        ensures short { All (λ text. length text ≤ 128) result.now }
     {
         self.lines.as_slice()
     }
 
-    /// The tasks that are there from the beginning, at most 32.
+    /// The tasks that are there from the beginning, at most 32, with names of 1 to 32 bytes.
     pub fn tasks(&self) -> &[Task]
         ensures told { result.now ≡ self.now.tasks }
         ensures few { length result.now ≤ 32 }
+        ensures named { All IsTask result.now }
     {
         self.tasks.as_slice()
     }
 
-    /// What the host asks, in order.
+    /// What the host asks, in order, at most 256 times.
     pub fn commands(&self) -> &[Command]
-        ensures { result.now ≡ self.now.commands }
+        ensures told { result.now ≡ self.now.commands }
+        ensures few { length result.now ≤ 256 }
+        ensures asked { All IsAsked result.now }
     {
         self.commands.as_slice()
     }
@@ -214,12 +263,24 @@ impl Workload {
         self.writers.len() as u32
     }
 
-    /// The steps of a writer, in order.
-    pub fn steps(&self, writer: u32) -> &[Step]
+    /// The script of a writer.
+    fn script(&self, writer: u32) -> &[Step]
         requires { writer < length self.now.scripts }
-        ensures { result.now ≡ script_of self.now writer }
+        ensures told { result.now ≡ script_of self.now writer }
+        ensures limits { IsWithinLimits self.now }
     {
         self.writers[writer as usize].as_slice()
+    }
+
+    /// The steps of a writer, in order. Each passes at most 2^33 ticks, and records what a recorder
+    /// takes: no overflow, start or stop of a trace, in a packet of at most 138 bytes.
+    pub fn steps(&self, writer: u32) -> &[Step]
+        requires { writer < length self.now.scripts }
+        ensures told { result.now ≡ script_of self.now writer }
+        ensures advances { All (λ step. step.advance ≤ 8589934592) result.now }
+        ensures acts { All (λ step. IsStepAct step.act) result.now }
+    {
+        self.script(writer)
     }
 
     /// Whether there is a schedule, be it empty.
@@ -229,10 +290,11 @@ impl Workload {
         self.scheduled
     }
 
-    /// The lines of the schedule, in order, at most 1048576.
+    /// The lines of the schedule, in order, at most 1048576. Each step's writer is there.
     pub fn schedule(&self) -> &[Action]
         ensures told { result.now ≡ self.now.schedule }
         ensures few { length result.now ≤ 1048576 }
+        ensures turns { All (IsTurn (length self.now.scripts)) result.now }
     {
         self.schedule.as_slice()
     }

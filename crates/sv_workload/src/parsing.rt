@@ -22,7 +22,7 @@ pub fn parse(alloc: Global, text: &[u8]) -> Result<Workload, WorkFault>
 {
     let mut draft = Draft::new(alloc);
     let mut rest = text;
-    let mut number = 0u64;
+    let mut number = 0u32;
     while !rest.is_empty() {
         let (line, behind) = first_line(rest);
         number += 1;

@@ -129,6 +129,7 @@ impl Scripts {
         ensures ok { OnOk result (self.new ≡ self.old ++ [] ∷ []) }
         ensures err { OnErr result (self.new ≡ self.old) }
         ensures all { length self.new ≤ 16 }
+        ensures grown { length self.old ≤ length self.new }
     {
         if self.writers.push(Vec::new(alloc)).is_err() {
             return Err(NoMemory);
@@ -146,6 +147,7 @@ impl Scripts {
         ensures ok { OnOk result (self.new ≡ onto_last step self.old) }
         ensures err { OnErr result (self.new ≡ self.old) }
         ensures all { length self.new ≤ 16 }
+        ensures grown { length self.old ≤ length self.new }
     {
         let starts = self.starts + start_count(&step.act);
         let bytes = self.bytes + act_bytes(&step.act);

@@ -5,6 +5,7 @@ use Rattle.sv_workload.specs.Draft.{Draft, Stands}
 use Rattle.sv_workload.proofs.Passed.{passes}
 use Rattle.sv_workload.proofs.Growing.{stands-writer, stands-schedule, stands-turn}
 use Rattle.sv_workload.proofs.Rooms.{fit_of, room_for_writer, room_for_turn, low_turn}
+use Rattle.sv_workload.proofs.Turns.{turn_is}
 use Rattle.sv_workload.proofs.draft.Draft.add.Goals as goal
 
 pub add_writer-requires : goal.add_writer-requires
@@ -35,7 +36,18 @@ returns-in-Turn c =
     let made = c.action.ensures line e (fit_of lines line passed) (low_turn c.args.self.now lines line stands passed few (fit_of lines line passed) c.in-Turn.word e c.requires.known) c.requires.numbers in
     subst (λ (d : Draft). Stands d (lines ++ line ∷ [])) (sym now) (stands-turn c.args.self.now lines line stands passed c.in-Turn.word c.action.result e c.requires.known made)) c.add_turn.ensures
 
-pub add_turn-requires : goal.add_turn-requires
-add_turn-requires c =
+pub add_turn-requires-clause-few : goal.add_turn-requires-clause-few
+add_turn-requires-clause-few c =
     let good = c.requires.good in
     room_for_turn c.args.self.now good.0 c.args.line.now good.1 (passes good.0 c.args.line.now good.2) c.in-Turn.word (ap (λ (l : Line). l.keyword) (sym c.line.view_is) ∙ c.in-Turn.is)
+
+pub add_turn-requires-clause-turn : goal.add_turn-requires-clause-turn
+add_turn-requires-clause-turn c =
+    let good = c.requires.good in
+    let line = c.args.line.now in
+    let e = ap (λ (l : Line). l.keyword) (sym c.line.view_is) ∙ c.in-Turn.is in
+    let few : length c.args.self.now.scripts ≤ 16 = subst (λ (d : Draft). length d.scripts ≤ 16) c.self.view_is c.self.invariant.few_scripts in
+    let passed = passes good.0 line good.2 in
+    let fit = fit_of good.0 line passed in
+    let made = c.action.ensures line e fit (low_turn c.args.self.now good.0 line good.1 passed few fit c.in-Turn.word e c.requires.known) c.requires.numbers in
+    turn_is c.args.self.now good.0 line good.1 passed fit c.in-Turn.word c.action.result e made

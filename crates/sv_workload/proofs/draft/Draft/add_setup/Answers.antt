@@ -5,7 +5,7 @@ use Rattle.sv_workload.specs.declared.load.Task.{Task}
 use Rattle.sv_workload.specs.declared.keyword.Keyword.TheVariants.{Setup}
 use Rattle.sv_workload.specs.declared.keyword.SetupWord.TheVariants as setup
 use Rattle.sv_workload.specs.Line.{text_of}
-use Rattle.sv_workload.proofs.FitSteps.{text_most}
+use Rattle.sv_workload.proofs.FitSteps.{text_most, task_named}
 use Rattle.sv_workload.specs.Forms.{is_in, form_of}
 use Rattle.sv_workload.specs.Settings.{tell}
 use Rattle.sv_workload.specs.Meaning.{task_of}
@@ -28,7 +28,8 @@ add_task-requires-clause-name c =
     let fit = fit_of good.0 line (passes good.0 line good.2) in
     let task : c.in_ok-task-in-Task.task ≡ task_of line = c.in_ok-task-in-Task.ensures line e fit c.requires.numbers c.text_behind.ensures in
     let short : length (text_of line) ≤ 32 = text_most line (Setup setup.Task) 32 e refl fit in
-    omega (arith, short, ap (λ (t : Task). length t.name) task)
+    let some : 1 ≤ length (text_of line) = task_named line e fit in
+    (omega (arith, some, ap (λ (t : Task). length t.name) task), omega (arith, short, ap (λ (t : Task). length t.name) task))
 
 pub add_setting-requires : goal.add_setting-requires
 add_setting-requires c =

@@ -18,3 +18,9 @@ returns-clause-all c =
     let scripts = map (λ script. script.items) c.self.inside.writers.items in
     let few : length (onto_last c.args.step scripts) ≤ 16 = omega (arith, length_onto c.args.step scripts, c.self.invariant.few_scripts) in
     subst (λ (l : List (List Step)). length l ≤ 16) (sym c.in_ok-add_to_last.ensures.ok) few
+
+pub returns-clause-grown : goal.returns-clause-grown
+returns-clause-grown c =
+    let scripts = map (λ script. script.items) c.self.inside.writers.items in
+    let same : length scripts ≤ length (onto_last c.args.step scripts) = omega (arith, length_onto c.args.step scripts) in
+    rw (← c.self.view_is) (subst (λ (l : List (List Step)). length scripts ≤ length l) (sym c.in_ok-add_to_last.ensures.ok) same)

@@ -141,7 +141,8 @@ impl<'w, U: UpWriter + Drop> Book<'w, U> {
         requires packet { HasPacket self.old.load.now origin }
         requires ready { IsReady 2 (packet_bytes self.old.load.now origin)
             self.old }
-        ensures kept { KeepsPacket (self.old.on && not (is_stop_reply origin)) origin self.old self.new }
+        ensures kept { KeepsPacket (self.old.on && not (is_stop_reply origin)) origin
+            self.old self.new }
         ensures records { Records origin result self.old
             self.new }
     {

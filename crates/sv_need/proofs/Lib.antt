@@ -1,4 +1,6 @@
+pub mod Laws
 pub mod examples
+pub mod Replies
 pub mod Groups
 pub mod Heads
 pub mod Scripts

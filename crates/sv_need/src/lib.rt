@@ -5,6 +5,6 @@
 //! of a run ([`room_ahead`], [`packet_room`]).
 #![tactic(auto)]
 
-mod laws;
+mod need;
 
-pub use laws::{packet_room, room_ahead, within_need};
+pub use need::{packet_room, room_ahead, within_need};

@@ -1,10 +1,10 @@
 //! How a packet is formed, and how it is recorded: ignored, written, or written after an overflow.
-ghost use Rattle.std.specs.Prelude.{◌≡◌, ℕ, ◌-◌, ◌<◌, ◌≤◌, ◌&&◌, List, [], not, length};
+ghost use Rattle.std.specs.Prelude.{◌≡◌, ◌<◌, ◌≤◌, ◌&&◌, [], not, length};
 ghost use Rattle.sv_packet.specs.Spelling.{spelling_of};
 ghost use Rattle.sv_recorder.specs.Formed.{IsFormed, block_bytes, packet_bytes};
 ghost use Rattle.sv_recorder.specs.Items.{event_at, is_stop_reply};
 ghost use Rattle.sv_recorder.specs.Plain.{IsPlain};
-ghost use Rattle.sv_recorder.specs.Writes.{HasPacket, IsPacketHere, packet_block};
+ghost use Rattle.sv_recorder.specs.Writes.{HasPacket, packet_block};
 
 use crate::book::{Book, outcome_of};
 use crate::journal::{Kind, Origin, Outcome};
@@ -77,7 +77,7 @@ fn form(load: &Workload, origin: Origin, moment: u64, last: u64) -> Buf
 
 impl<'w, U: UpWriter + Drop> Book<'w, U> {
     ghost use Rattle.std.specs.Prelude.{true};
-    ghost use Rattle.sv_recorder.specs.Book.{Holds, HoldsAs, IsReady, Records, Settles};
+    ghost use Rattle.sv_recorder.specs.Book.{KeepsPacket, IsReady, Records, Settles};
 
     /// What a write leaves pending, and the moment of the last stored packet, which was `before`.
     fn settle(&mut self, stored: bool, before: u64)
@@ -100,9 +100,7 @@ impl<'w, U: UpWriter + Drop> Book<'w, U> {
             self.old }
         requires on { self.old.on ≡ true }
         requires none { self.old.pending ≡ 0 }
-        ensures kept { (owed rest : List Origin) → Holds self.old owed →
-            IsPacketHere self.old.load.now self.old.journal.items owed origin self.old.moment rest →
-            HoldsAs (not (is_stop_reply origin)) self.new rest }
+        ensures kept { KeepsPacket (not (is_stop_reply origin)) origin self.old self.new }
         ensures records { Records origin result self.old
             self.new }
     {
@@ -120,9 +118,7 @@ impl<'w, U: UpWriter + Drop> Book<'w, U> {
             self.old }
         requires on { self.old.on ≡ true }
         requires some { 0 < self.old.pending }
-        ensures kept { (owed rest : List Origin) → Holds self.old owed →
-            IsPacketHere self.old.load.now self.old.journal.items owed origin self.old.moment rest →
-            HoldsAs (not (is_stop_reply origin)) self.new rest }
+        ensures kept { KeepsPacket (not (is_stop_reply origin)) origin self.old self.new }
         ensures records { Records origin result self.old
             self.new }
     {
@@ -145,9 +141,8 @@ impl<'w, U: UpWriter + Drop> Book<'w, U> {
         requires packet { HasPacket self.old.load.now origin }
         requires ready { IsReady 2 (packet_bytes self.old.load.now origin)
             self.old }
-        ensures kept { (owed rest : List Origin) → Holds self.old owed →
-            IsPacketHere self.old.load.now self.old.journal.items owed origin self.old.moment rest →
-            HoldsAs (self.old.on && not (is_stop_reply origin)) self.new rest }
+        ensures kept { KeepsPacket (self.old.on && not (is_stop_reply origin)) origin
+            self.old self.new }
         ensures records { Records origin result self.old
             self.new }
     {

@@ -1,15 +1,12 @@
 //! The groups of items that a step gives: an event, a start or a stop with its answers.
-ghost use Rattle.std.specs.Prelude.{◌≡◌, ℕ, ◌+◌, ◌*◌, List, [], ◌∷◌, ◌++◌, true, Some, map, length};
+ghost use Rattle.std.specs.Prelude.{◌≡◌, ◌*◌, List, [], ◌∷◌, ◌++◌, true, Some, map, length};
 ghost use Rattle.std.specs.List.{list_all};
 ghost use Rattle.sv_workload.specs.Load.{act_of, step_of};
 ghost use Rattle.sv_workload.specs.Need.{IsStepAct};
-ghost use Rattle.sv_recorder.specs.declared.journal.Item.{Item};
 ghost use Rattle.sv_recorder.specs.Formed.{IsFormed, packet_bytes, reply_bytes, stop_bytes};
 ghost use Rattle.sv_recorder.specs.Needs.{start_bytes, start_items, step_bytes, step_items};
 ghost use Rattle.sv_recorder.specs.Needs.{stop_items};
 ghost use Rattle.sv_recorder.specs.Clock.{clock_of, is_start_kind, reply_of};
-ghost use Rattle.sv_recorder.specs.Items.{latest_first};
-ghost use Rattle.sv_recorder.specs.Legal.{IsNextStep, ticks_of};
 
 use crate::answer::Answer;
 use crate::book::Book;
@@ -24,7 +21,7 @@ impl<'w, U: UpWriter + Drop> Book<'w, U> {
     ghost use Rattle.sv_recorder.specs.declared.journal.Origin.{Origin};
     ghost use Rattle.sv_recorder.specs.declared.journal.Origin.TheVariants.{Call, Sync};
     ghost use Rattle.sv_workload.specs.declared.load.Act.TheVariants as acts;
-    ghost use Rattle.sv_recorder.specs.Book.{Holds, Goes, IsReady};
+    ghost use Rattle.sv_recorder.specs.Book.{Holds, KeepsStep, Goes, IsReady};
     ghost use Rattle.sv_recorder.specs.Answer.{answer_of, Gains, IsAnswered};
     ghost use Rattle.sv_recorder.specs.declared.journal.Outcome.{Outcome};
 
@@ -66,10 +63,7 @@ impl<'w, U: UpWriter + Drop> Book<'w, U> {
     pub fn start(&mut self, writer: u32, step: u32)
         requires act { act_of self.old.load.now writer step ≡ Some acts.Start }
         requires ready { IsReady start_items start_bytes self.old }
-        ensures kept { Holds self.old [] →
-            IsNextStep self.old.load.now (latest_first self.old.journal.items) (Call writer step) →
-            self.old.moment ≡ ticks_of self.old.load.now (Call writer step) + clock_of
-            self.old.load.now self.old.journal.items → Holds self.new [] }
+        ensures kept { KeepsStep (Call writer step) self.old self.new }
         ensures goes { Goes (Call writer step ∷ []) start_items
             start_bytes self.old self.new }
     {
@@ -88,10 +82,7 @@ impl<'w, U: UpWriter + Drop> Book<'w, U> {
     pub fn stop(&mut self, writer: u32, step: u32)
         requires act { act_of self.old.load.now writer step ≡ Some acts.Stop }
         requires ready { IsReady stop_items stop_bytes self.old }
-        ensures kept { Holds self.old [] →
-            IsNextStep self.old.load.now (latest_first self.old.journal.items) (Call writer step) →
-            self.old.moment ≡ ticks_of self.old.load.now (Call writer step) + clock_of
-            self.old.load.now self.old.journal.items → Holds self.new [] }
+        ensures kept { KeepsStep (Call writer step) self.old self.new }
         ensures goes { Goes (Call writer step ∷ []) stop_items
             stop_bytes self.old self.new }
     {
@@ -108,10 +99,7 @@ impl<'w, U: UpWriter + Drop> Book<'w, U> {
         requires formed { IsFormed self.old.load.now (Call writer step) }
         requires ready { IsReady 2
             (packet_bytes self.old.load.now (Call writer step)) self.old }
-        ensures kept { Holds self.old [] →
-            IsNextStep self.old.load.now (latest_first self.old.journal.items) (Call writer step) →
-            self.old.moment ≡ ticks_of self.old.load.now (Call writer step) + clock_of
-            self.old.load.now self.old.journal.items → Holds self.new [] }
+        ensures kept { KeepsStep (Call writer step) self.old self.new }
         ensures goes { Goes (Call writer step ∷ []) 2
             (packet_bytes self.old.load.now (Call writer step)) self.old self.new }
         ensures answered { (outcome : Outcome)
@@ -127,10 +115,7 @@ impl<'w, U: UpWriter + Drop> Book<'w, U> {
         requires step { step_of self.old.load.now writer place ≡ Some step.now }
         requires act { IsStepAct step.now.act }
         requires ready { IsReady (step_items step.now) (step_bytes step.now) self.old }
-        ensures kept { Holds self.old [] →
-            IsNextStep self.old.load.now (latest_first self.old.journal.items) (Call writer place) →
-            self.old.moment ≡ ticks_of self.old.load.now (Call writer place) + clock_of
-            self.old.load.now self.old.journal.items → Holds self.new [] }
+        ensures kept { KeepsStep (Call writer place) self.old self.new }
         ensures goes { Goes (Call writer place ∷ []) (step_items step.now) (step_bytes step.now)
             self.old self.new }
         ensures answered { IsAnswered self.old.load.now self.old.journal.items

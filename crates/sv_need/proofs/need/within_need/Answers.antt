@@ -1,7 +1,7 @@
 use Rattle.sv_need.proofs.ItemCounts.{within_items}
 use Rattle.sv_need.proofs.ByteCounts.{within_bytes}
 use Rattle.sv_need.proofs.Limits.{few_items, short_stream}
-use Rattle.sv_need.proofs.laws.within_need.Goals as goal
+use Rattle.sv_need.proofs.need.within_need.Goals as goal
 
 pub returns-clause-items : goal.returns-clause-items
 returns-clause-items c = within_items

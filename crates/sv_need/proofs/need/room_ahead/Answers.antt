@@ -1,6 +1,6 @@
 use Rattle.sv_need.proofs.ItemCounts.{due_items}
 use Rattle.sv_need.proofs.ByteCounts.{due_bytes}
-use Rattle.sv_need.proofs.laws.room_ahead.Goals as goal
+use Rattle.sv_need.proofs.need.room_ahead.Goals as goal
 
 pub returns-clause-items : goal.returns-clause-items
 returns-clause-items c = due_items

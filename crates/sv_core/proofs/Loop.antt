@@ -12,7 +12,7 @@ use Rattle.sv_recorder.specs.Plain.{IsPlain}
 use Rattle.sv_recorder.specs.Recording.{Recording}
 use Rattle.sv_recorder.specs.Section.{IsSection}
 use Rattle.sv_recorder.specs.Stream.{stream_of}
-use Rattle.sv_recorder.proofs.Laws.{calls_within}
+use Rattle.sv_recorder.proofs.Shared.{calls_within}
 use Rattle.sv_core.specs.Built.{is_built}
 use Rattle.sv_core.specs.Simulated.{IsSimulated}
 use Rattle.sv_core.proofs.Runnable.{runs}

@@ -21,7 +21,7 @@ use Rattle.sv_recorder.specs.Legal.{IsLegal, IsWhole, IsNextItem, EachItem, owes
 use Rattle.sv_recorder.specs.Stream.{stream_of}
 use Rattle.sv_recorder.specs.Section.{IsSection}
 use Rattle.sv_recorder.specs.Kept.{Keeps}
-use Rattle.sv_recorder.proofs.Laws.{each-push, IsLegal-open, latest_first-push, one_script}
+use Rattle.sv_recorder.proofs.Shared.{each-push, IsLegal-open, latest_first-push, one_script}
 use Rattle.sv_core.specs.Order.{Turn, Takes_step, Reads_all, is_step, is_send, count_up, round_of, order_of}
 use Rattle.sv_core.specs.Turns.{StepTurn, has_command, turn_at, step_turns}
 use Rattle.sv_core.specs.Simulated.{IsSimulated, IsInOrder, IsTakenItem, IsTaken, before_number, before_section, before_step, stored_by, taken_in, ordered_turns, overflow_freed}

@@ -5,7 +5,7 @@ use Rattle.std.proofs.lemmas.Bool.{and_parts}
 use Rattle.sv_workload.specs.Load.{Load}
 use Rattle.sv_workload.specs.Grammar.{IsWorkload, SaysNothingOfLater}
 use Rattle.sv_recorder.specs.Plain.{IsPlain}
-use Rattle.sv_recorder.proofs.Laws.{plain_of}
+use Rattle.sv_recorder.proofs.Shared.{plain_of}
 use Rattle.sv_core.specs.Built.{is_built}
 
 -- what the test of a workload that is built finds

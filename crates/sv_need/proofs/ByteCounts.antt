@@ -22,7 +22,7 @@ use Rattle.sv_recorder.specs.Legal.{IsLegal, EachItem, IsNextItem}
 use Rattle.sv_recorder.specs.Open.{IsOpen, IsDue}
 use Rattle.sv_need.specs.Next.{MayCome}
 use Rattle.sv_recorder.specs.Stream.{stream_of}
-use Rattle.sv_recorder.proofs.Laws.{outcome_at-control, IsOpen-legal}
+use Rattle.sv_recorder.proofs.Shared.{outcome_at-control, IsOpen-legal}
 use Rattle.sv_need.specs.Short.{HasShortTexts}
 use Rattle.sv_need.specs.Weights.{byte_weights, bytes_ahead}
 use Rattle.sv_need.proofs.Groups.{act_most}

@@ -14,7 +14,7 @@ use Rattle.sv_recorder.specs.declared.journal.Item.{Item}
 use Rattle.sv_recorder.specs.Items.{latest_first}
 use Rattle.sv_recorder.specs.Legal.{IsLegal, EachItem}
 use Rattle.sv_recorder.specs.Open.{IsOpen, IsDue}
-use Rattle.sv_recorder.proofs.Laws.{IsOpen-legal}
+use Rattle.sv_recorder.proofs.Shared.{IsOpen-legal}
 use Rattle.sv_need.specs.Next.{MayCome}
 use Rattle.sv_need.specs.Weights.{item_weights, items_ahead}
 use Rattle.sv_need.proofs.Groups.{act_most}

@@ -1,4 +1,4 @@
-pub mod Laws
+pub mod Shared
 pub mod examples
 pub mod Replies
 pub mod Groups

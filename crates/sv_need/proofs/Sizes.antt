@@ -21,7 +21,7 @@ use Rattle.sv_recorder.specs.Items.{before_overflow, act_event}
 use Rattle.sv_recorder.specs.Legal.{IsLegal, EachItem, IsNextItem, is_control, is_head, group_of}
 use Rattle.sv_recorder.specs.Open.{IsOpen, IsDue}
 use Rattle.sv_need.specs.Next.{MayCome}
-use Rattle.sv_recorder.proofs.Laws.{outcome_at-control, IsOpen-legal, IsLegal-open}
+use Rattle.sv_recorder.proofs.Shared.{outcome_at-control, IsOpen-legal, IsLegal-open}
 use Rattle.sv_need.specs.Weights.{Weights, reply_weight, plain_weight, weight, weight_of}
 use Rattle.sv_need.proofs.Groups.{act_most, group_most, group_weight}
 use Rattle.sv_need.proofs.Heads.{journal_weight, reverse_sum}

@@ -1,6 +1,6 @@
 use Rattle.std.proofs.Common.{refl}
 use Rattle.sv_recorder.specs.Items.{latest_first}
-use Rattle.sv_recorder.proofs.Laws.{still-freed}
+use Rattle.sv_recorder.proofs.Shared.{still-freed}
 use Rattle.sv_core.proofs.Loop.{between-none, between-more, between-end, fewer_left}
 use Rattle.sv_core.proofs.simulation.play.Goals as goal
 

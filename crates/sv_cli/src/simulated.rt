@@ -20,7 +20,7 @@ pub struct Simulation {
 #[derive(Clone, Copy, Debug, PartialEq, Eq)]
 pub enum Unsimulated {
     /// This line, counted from 1, is the first with a fault, for the reason of this number.
-    Line { line: u64, reason: u8 },
+    Line { line: u32, reason: u8 },
     /// What it asks for is not built yet.
     Unbuilt,
     /// Memory was not to be had.

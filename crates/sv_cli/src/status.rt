@@ -30,7 +30,7 @@ pub enum Status {
     NoSync,
     /// The text is no workload: the line `line`, counted from 1, is the first with a fault, and
     /// `reason` is the fault's number, from 1 to 10.
-    Workload { line: u64, reason: u8 },
+    Workload { line: u32, reason: u8 },
     /// The file has more bytes than the limit.
     TooLong { limit: u64 },
     /// Memory was not to be had.
@@ -111,7 +111,7 @@ fn line_of(status: &Status) -> Line
         Status::Damaged { place, reason } => reasoned("damaged at ", *place, *reason),
         Status::Truncated { held } => numbered("truncated, held ", *held),
         Status::NoSync => words("no sync\n"),
-        Status::Workload { line, reason } => reasoned("workload line ", *line, *reason),
+        Status::Workload { line, reason } => reasoned("workload line ", u64::from(*line), *reason),
         Status::TooLong { limit } => numbered("longer than ", *limit),
         Status::NoMemory => words("no memory\n"),
         Status::Unbuilt { place } => numbered("not built at ", *place),

@@ -24,7 +24,7 @@ use Rattle.sv_recorder.specs.declared.journal.Kind.{Kind}
 use Rattle.sv_recorder.specs.declared.journal.Kind.TheVariants as kinds
 use Rattle.sv_recorder.specs.Items.{reply_event, system_time, micros_at, task_info, stack_info}
 use Rattle.sv_recorder.specs.Items.{module_desc}
-use Rattle.sv_need.specs.Short.{HasShortTexts}
+use Rattle.sv_workload.specs.Need.{HasShortTexts}
 
 number_short : (value : ℕ) → length (number_spelling value) ≤ 5
 number_short value = of_few 4 value

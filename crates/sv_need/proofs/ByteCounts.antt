@@ -23,7 +23,7 @@ use Rattle.sv_recorder.specs.Open.{IsOpen, IsDue}
 use Rattle.sv_need.specs.Next.{MayCome}
 use Rattle.sv_recorder.specs.Stream.{stream_of}
 use Rattle.sv_recorder.proofs.Shared.{outcome_at-control, IsOpen-legal}
-use Rattle.sv_need.specs.Short.{HasShortTexts}
+use Rattle.sv_workload.specs.Need.{HasShortTexts}
 use Rattle.sv_need.specs.Weights.{byte_weights, bytes_ahead}
 use Rattle.sv_need.proofs.Groups.{act_most}
 use Rattle.sv_need.proofs.Sizes.{IsPlainSize, IsSized, total, need_of, within, within_due}

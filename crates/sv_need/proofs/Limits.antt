@@ -13,7 +13,6 @@ use Rattle.sv_workload.specs.Need.{need_items, need_bytes, IsStepAct, IsWithinLi
 use Rattle.sv_recorder.specs.declared.journal.Item.{Item}
 use Rattle.sv_recorder.specs.Legal.{IsLegal}
 use Rattle.sv_recorder.specs.Stream.{stream_of}
-use Rattle.sv_need.specs.Short.{HasShortTexts}
 use Rattle.sv_need.proofs.ItemCounts.{within_items}
 use Rattle.sv_need.proofs.ByteCounts.{within_bytes}
 
@@ -72,9 +71,9 @@ pub few_items : (load : Load) (items : List Item) → IsLegal load items → IsW
 few_items load items legal s = omega (arith, within_items load items legal, few_needed load s)
 
 pub short_stream : (load : Load) (items : List Item) → IsLegal load items → IsWithinLimits load
-    → HasShortTexts load → length (stream_of load items) < 181000000
-short_stream load items legal s short = omega (
+    → length (stream_of load items) < 181000000
+short_stream load items legal s = omega (
   arith,
-  within_bytes load items legal short,
+  within_bytes load items legal s.texts,
   short_needed load s,
 )

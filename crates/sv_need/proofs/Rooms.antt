@@ -8,7 +8,7 @@ use Rattle.sv_recorder.specs.declared.journal.Origin.TheVariants.{Call, Sync, Re
 use Rattle.sv_recorder.specs.declared.journal.Origin.TheVariants.{Command}
 use Rattle.sv_recorder.specs.Legal.{is_control}
 use Rattle.sv_recorder.specs.Writes.{packet_block, is_call_or_reply}
-use Rattle.sv_need.specs.Short.{HasShortTexts}
+use Rattle.sv_workload.specs.Need.{HasShortTexts}
 use Rattle.sv_need.specs.Weights.{Weights, plain_weight, weight, item_weights, byte_weights}
 use Rattle.sv_need.proofs.Sizes.{IsPlainSize}
 use Rattle.sv_need.proofs.ByteCounts.{plain_bytes}

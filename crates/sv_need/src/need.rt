@@ -2,14 +2,13 @@ ghost use Rattle.std.specs.Prelude.{◌≡◌, ℕ, ◌+◌, ◌<◌, ◌≤◌,
 ghost use Rattle.sv_packet.specs.declared.event.Event.TheVariants.{Overflow};
 ghost use Rattle.sv_packet.specs.Spelling.{spelling_of};
 ghost use Rattle.sv_workload.specs.Load.{Load};
-ghost use Rattle.sv_workload.specs.Need.{need_items, need_bytes, IsWithinLimits};
+ghost use Rattle.sv_workload.specs.Need.{need_items, need_bytes, IsWithinLimits, HasShortTexts};
 ghost use Rattle.sv_recorder.specs.declared.journal.Item.{Item};
 ghost use Rattle.sv_recorder.specs.declared.journal.Origin.{Origin};
 ghost use Rattle.sv_recorder.specs.Legal.{IsLegal, is_control};
 ghost use Rattle.sv_recorder.specs.Open.{IsOpen, IsDue};
 ghost use Rattle.sv_recorder.specs.Stream.{stream_of};
 ghost use Rattle.sv_recorder.specs.Writes.{packet_block, is_call_or_reply};
-ghost use Rattle.sv_need.specs.Short.{HasShortTexts};
 ghost use Rattle.sv_need.specs.Weights.{weight, item_weights, byte_weights};
 ghost use Rattle.sv_need.specs.Weights.{items_ahead, bytes_ahead};
 ghost use Rattle.sv_need.specs.Next.{MayCome};
@@ -24,8 +23,7 @@ pub fn within_need()
     ensures few { (load : Load) → (items : List Item) → IsLegal load items →
         IsWithinLimits load → length items < 3400000 }
     ensures short { (load : Load) → (items : List Item) → IsLegal load items →
-        IsWithinLimits load → HasShortTexts load →
-        length (stream_of load items) < 181000000 }
+        IsWithinLimits load → length (stream_of load items) < 181000000 }
 {}
 
 /// The law of room: whatever is due next, be it an answer that is owed, a step or a command, the

@@ -8,5 +8,5 @@ overflow_cast-result g c =
     let only = views.writer_zero old c.self.inside.place c.args.writer c.args.self.now
     c.self.view_is c.self.invariant c.requires in
     let short = views.script_fits old c.args.writer c.self.inside.place c.steps.result.now
-    c.self.invariant only c.steps.ensures in
+    c.self.invariant only c.steps.ensures.told in
     omega (arith, short)

@@ -48,5 +48,5 @@ invariant_of-self g c =
     c.self.view_is c.self.invariant c.requires.writer in
     views.after old c.advance.new.self c.take-answer.new.self c.args.writer c.self.inside.place
     c.steps-steps.result.now c.index-steps-place.result c.self.invariant zero
-    c.steps-steps.ensures c.if-place-steps.false c.index-steps-place.is c.advance.ensures
+    c.steps-steps.ensures.told c.if-place-steps.false c.index-steps-place.is c.advance.ensures
     c.take-answer.ensures.kept c.take-answer.ensures.goes

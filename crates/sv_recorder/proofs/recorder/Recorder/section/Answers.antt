@@ -8,7 +8,7 @@ take-answer-requires-clause-ready g c =
     let zero = views.writer_zero old c.self.inside.place c.args.writer c.args.self.now
     c.self.view_is c.self.invariant c.requires.writer in
     views.ready_at old c.advance.new.self c.args.writer c.self.inside.place c.steps-steps.result.now
-    c.index-steps-place.result c.self.invariant zero c.steps-steps.ensures
+    c.index-steps-place.result c.self.invariant zero c.steps-steps.ensures.told
     c.if-place-steps.false c.index-steps-place.is c.advance.ensures
 
 pub returns-clause-section : goal.returns-clause-section
@@ -37,7 +37,7 @@ returns-clause-through g c =
       λ (no : true ≡ false). absurd cc,
       λ through. absurd
           (views.not_through old c.args.writer c.self.inside.place c.steps-steps.result.now
-          c.args.self.now c.self.view_is c.self.invariant zero c.steps-steps.ensures
+          c.args.self.now c.self.view_is c.self.invariant zero c.steps-steps.ensures.told
           c.if-place-steps.false through),
     )
 

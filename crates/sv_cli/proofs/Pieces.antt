@@ -203,7 +203,7 @@ module _ {V : Type 0} (text : Text) (shown : V → List TimedEvent → Type 0) (
         -- the lines of the piece are written
         pub scanned_now : (out_now : Option (List ℕ)) (later : Scan V) → Appends out out_now lines → later.decoder ≡ new → later.view ≡ now → later.lines.items ≡ [] → later.total ≡ scan.total + count
             → (s : IsScanned text shown left0 left_now out0 out_now later) × ((damaged ≡ true) ⊎ (count < piece_size) → IsEnough left_now s.input)
-              × ((damaged ≡ false) × (piece_size ≤ count) → IsBetween text shown left0 left_now out0 out_now later)
+            × ((damaged ≡ false) × (piece_size ≤ count) → IsBetween text shown left0 left_now out0 out_now later)
         scanned_now out_now later written decoder view empty total_is = (scanned, enough_now, between)
           where
             scanned : IsScanned text shown left0 left_now out0 out_now later

@@ -9,6 +9,7 @@
 mod command;
 mod commands;
 mod reading;
+mod recording;
 mod scan;
 mod simulated;
 mod status;

@@ -9,6 +9,9 @@ use sv_recorder::Finished;
 use sv_ring::PlainRing;
 use sv_workload::{WorkFault, Workload, parse};
 
+/// The most bytes of a workload.
+pub const MOST_BYTES: u64 = 1 << 26;
+
 /// A workload, and what is left of its simulation: the journal, and the ring with the bytes sent.
 #[derive(Drop)]
 pub struct Simulation {

@@ -42,6 +42,7 @@ fn put_numbered(words: &str, number: u64, lines: &mut Vec<u8>) -> Result<(), All
 
 impl View for Check {
     ghost text = { check_text };
+
     ghost shown = { λ view events. view ≡ record {
       packets = length events;
       time = last_time 0 events;

@@ -13,6 +13,7 @@ pub struct Events;
 
 impl View for Events {
     ghost text = { events_text };
+
     ghost shown = { λ view events. Unit {0} };
 
     fn event(&mut self, event: &TimedEvent, lines: &mut Vec<u8>) -> Result<(), NoMemory> {

@@ -1,33 +1,17 @@
 //! The command `record`: the recording that a workload gives.
-ghost use Rattle.std.specs.Prelude.{◌≡◌, ◌≢◌, ◌≤◌, ◌^◌, ◌++◌, [], length, true, IsErr, OnOk, OnErr};
-ghost use Rattle.std.specs.Io.KnownBytes.{Appends};
+ghost use Rattle.std.specs.Prelude.{◌≡◌, ◌≢◌, ◌≤◌, ◌^◌, [], length, true};
 ghost use Rattle.sv_base.specs.Causes.{Blames, BlamesLast, one_more};
-ghost use Rattle.sv_base.specs.Streams.{AppendsPart};
 ghost use Rattle.sv_cli.specs.Devices.{OfFile};
-ghost use Rattle.sv_cli.specs.Recorded.{header, is_unwritten, IsTextRecorded, IsRecorded};
+ghost use Rattle.sv_cli.specs.Recorded.{is_unwritten, IsTextRecorded, IsRecorded};
 
 use crate::reading::read_file;
-use crate::simulated::{Simulation, Unsimulated, simulated};
+use crate::recording::put_recording;
+use crate::simulated::{MOST_BYTES, Simulation, Unsimulated, simulated};
 use crate::status::Status;
 use std::alloc::Global;
-use sv_base::{Failed, ReadAll, Sink, Source, put_all};
+use sv_base::{ReadAll, Sink, Source};
 use sv_core::has_start;
 use sv_recorder::Journal;
-
-/// The most bytes of a workload.
-const MOST_OF_WORKLOAD: u64 = 1 << 26;
-
-/// Writes the line of a recording and its bytes.
-fn put_recording<K: Sink>(out: &mut K, bytes: &[u8]) -> Result<(), Failed>
-    ensures ok { OnOk result (Appends (K.written out.old) (K.written out.new) (header ++ bytes.now)) }
-    ensures err { OnErr result
-        (AppendsPart (K.written out.old) (K.written out.new) (header ++ bytes.now)) }
-    ensures sink { BlamesLast (IsErr result) (K.broken out.new) (K.faults out.old) (K.faults out.new) }
-{
-    put_all(out, b"; sysview recording\n")?;
-    put_all(out, bytes)?;
-    Ok(())
-}
 
 /// Records the workload that the text says.
 fn record_text<K: Sink>(alloc: Global, text: &[u8], out: &mut K, journal: &mut Journal) -> Status
@@ -76,12 +60,10 @@ pub fn record<S: Source, K: Sink>(
     ensures write { BlamesLast (result ≡ Status.WriteFault)
         (K.broken out.new) (K.faults out.old) (K.faults out.new) }
 {
-    match read_file(alloc, name, src, MOST_OF_WORKLOAD) {
+    match read_file(alloc, name, src, MOST_BYTES) {
         Ok(text) => record_text(alloc, &text, out, journal),
         Err(ReadAll::Failed) => Status::ReadFault,
-        Err(ReadAll::TooLong) => Status::TooLong {
-            limit: MOST_OF_WORKLOAD,
-        },
+        Err(ReadAll::TooLong) => Status::TooLong { limit: MOST_BYTES },
         Err(ReadAll::NoMemory) => Status::NoMemory,
     }
 }

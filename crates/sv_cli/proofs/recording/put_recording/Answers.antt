@@ -2,7 +2,7 @@ use Rattle.sv_base.proofs.Shared.{Appends-then}
 use Rattle.sv_cli.specs.Recorded.{header}
 use Rattle.sv_cli.proofs.Parts.{part_more}
 use Rattle.sv_cli.proofs.Parts.{on_err, part_after}
-use Rattle.sv_cli.proofs.commands.record.put_recording.Goals as goal
+use Rattle.sv_cli.proofs.recording.put_recording.Goals as goal
 
 pub returns-in_err-put_all-clause-err : goal.returns-in_err-put_all-clause-err
 returns-in_err-put_all-clause-err g c =

@@ -1,5 +1,7 @@
 pub mod examples
 pub mod Sections
+pub mod WriterOrder
+pub mod LatestSection
 pub mod OneWriter
 pub mod Heads
 pub mod TurnsOfOrder

@@ -1,396 +1,102 @@
--- Runs of one writer with no schedule and no commands: a section for each step, and the host reads everything behind each.
-use Rattle.std.proofs.Common.{◌≡◌, ℕ, zero, suc, ◌+◌, ◌-◌, ◌<◌, ◌≤◌, Bool, true, false, not, ◌&&◌, ◌||◌, cond, None, List, [], ◌∷◌, ◌++◌, length, reverse, replicate, map, filter, All, flat_map, refl, sym, ap, ◌∙◌, subst, inl, inr, arith, rules, append_assoc, append-nil, add-one, zero-add}
-use Rattle.std.specs.Prelude.{count_by, sum_by, slice_index_or, take_while, take, nat_lt, if◌then◌else◌}
-use Rattle.std.specs.List.{list_any}
-use Rattle.std.proofs.lemmas.List.{reverse-append, map-append, append_cancel_left, nil_from_length, replicate_more}
+-- Runs of one writer with no schedule and no commands: a section for each step, and the host reads everything after each.
+use Rattle.std.proofs.Common.{◌≡◌, ℕ, zero, suc, ◌+◌, ◌-◌, ◌<◌, ◌≤◌, Bool, true, false, not, ◌&&◌}
+use Rattle.std.proofs.Common.{cond, None, List, [], ◌∷◌, ◌++◌, length, reverse, map, filter, All}
+use Rattle.std.proofs.Common.{flat_map, refl, sym, ap, ◌∙◌, subst, arith, append_assoc, append-nil}
+use Rattle.std.specs.Prelude.{count_by, slice_index_or, take, nat_lt}
+use Rattle.std.proofs.lemmas.List.{reverse-append, map-append, append_cancel_left, nil_from_length}
 use Rattle.std.proofs.lemmas.List.Concat.{flat_map-append}
 use Rattle.std.proofs.lemmas.List.Elements.{All-nil, All-cons, All-head, All-tail, filter-append}
-use Rattle.std.proofs.lemmas.List.Sums.{sum_by-cons, sum_by-append, sum_by_push, take_while-cons}
-use Rattle.std.proofs.lemmas.Bool.{or_parts, and_right, true≢false, cases_order}
-use Rattle.sv_workload.specs.declared.load.Action.{Action}
-use Rattle.sv_workload.specs.declared.load.Command.{Command as Asked}
+use Rattle.std.proofs.lemmas.List.Sums.{sum_by-append}
+use Rattle.std.proofs.lemmas.Bool.{or_parts, true≢false}
 use Rattle.sv_workload.specs.declared.load.Step.{Step}
 use Rattle.sv_workload.specs.Load.{Load, script_of}
-use Rattle.sv_workload.specs.Need.{steps_in}
 use Rattle.sv_recorder.specs.declared.journal.Origin.{Origin}
-use Rattle.sv_recorder.specs.declared.journal.Origin.TheVariants.{Call, Sync, Reply, Overflow, Command}
+use Rattle.sv_recorder.specs.declared.journal.Origin.TheVariants.{Call, Sync, Reply, Overflow}
+use Rattle.sv_recorder.specs.declared.journal.Origin.TheVariants.{Command}
 use Rattle.sv_recorder.specs.declared.journal.Item.{Item}
-use Rattle.sv_recorder.specs.declared.journal.Outcome.{Outcome}
-use Rattle.sv_recorder.specs.Items.{latest_first, is_call, is_call_of, is_command, is_overflow, is_packet, holds_packet, is_on, pending_at, is_after_overflow, before_overflow, stored_before}
-use Rattle.sv_recorder.specs.Legal.{IsLegal, IsWhole, IsNextItem, EachItem, owes_overflow, is_head, group_of, answers_of, origins_of, commands_in, command_in}
+use Rattle.sv_recorder.specs.Items.{latest_first, is_call, is_call_of, is_command, is_overflow}
+use Rattle.sv_recorder.specs.Items.{is_on, pending_at, is_after_overflow, before_overflow}
+use Rattle.sv_recorder.specs.Items.{stored_before}
+use Rattle.sv_recorder.specs.Legal.{IsLegal, IsWhole, IsNextItem, EachItem, owes_overflow, is_head}
+use Rattle.sv_recorder.specs.Legal.{group_of, answers_of, origins_of, commands_in, command_in}
 use Rattle.sv_recorder.specs.Stream.{stream_of}
 use Rattle.sv_recorder.specs.Section.{IsSection}
 use Rattle.sv_recorder.specs.Kept.{Keeps}
-use Rattle.sv_recorder.proofs.Shared.{each-push, IsLegal-open, latest_first-push, one_script}
-use Rattle.sv_core.specs.Order.{Turn, Takes_step, Reads_all, is_step, is_send, count_up, round_of, order_of}
-use Rattle.sv_core.specs.Turns.{StepTurn, has_command, turn_at, step_turns}
-use Rattle.sv_core.specs.Simulated.{IsSimulated, IsInOrder, IsTakenItem, IsTaken, before_number, before_section, before_step, stored_by, taken_in, ordered_turns, overflow_freed}
+use Rattle.sv_recorder.proofs.Shared.{IsLegal-open, latest_first-push, one_script}
+use Rattle.sv_core.specs.Order.{Turn, Reads_all, order_of}
+use Rattle.sv_core.specs.Simulated.{IsSimulated, IsInOrder, IsTakenItem, IsTaken, before_number}
+use Rattle.sv_core.specs.Simulated.{before_section, before_step, taken_in, ordered_turns}
+use Rattle.sv_core.specs.Simulated.{overflow_freed}
 use Rattle.sv_core.proofs.Sections.{before_number-append}
-
-lt_true : (m n : ℕ) → m < n → nat_lt m n ≡ true
-lt_true m n h = search (rules, h)
-
-lt_false : (m n : ℕ) → n ≤ m → nat_lt m n ≡ false
-lt_false m n h = search (rules, h)
-
--- how many pass, with one element more
-pub count-cons : {X : Type 0} (p : X → Bool) (x : X) (xs : List X) → count_by p (x ∷ xs) ≡ cond (p x) 1 0 + count_by p xs
-count-cons p x xs = sum_by-cons (λ y. cond (p y) 1 0) x xs
-
--- what does not pass is not counted
-pub count-not : {X : Type 0} (p : X → Bool) (x : X) (xs : List X) → p x ≡ false → count_by p (x ∷ xs) ≡ count_by p xs
-count-not p x xs h = count-cons p x xs ∙ (ap (λ b. cond b 1 0 + count_by p xs) h ∙ zero-add (count_by p xs))
-
--- THE ORDER
-
--- the turns of so many steps
-abbrev pub turns_one : ℕ → List Turn
-turns_one zero = []
-turns_one (suc n) = turns_one n ++ (Takes_step 0 ∷ Reads_all ∷ [])
-
--- the same, the latest first
-abbrev pub turns_back : ℕ → List Turn
-turns_back zero = []
-turns_back (suc n) = Reads_all ∷ Takes_step 0 ∷ turns_back n
-
--- a workload of this one script
-abbrev one_load : Load → List Step → Load
-one_load load script = record load { commands = []; scripts = script ∷ []; schedule = [] }
-
-only : (load : Load) (script : List Step) → load.scripts ≡ script ∷ [] → load.schedule ≡ [] → load.commands ≡ [] → load ≡ one_load load script
-only load script scripts schedule commands =
-    ap (λ (xs : List (List Step)). record load { scripts = xs }) scripts
-    ∙ (ap (λ (xs : List Action). record load { scripts = script ∷ []; schedule = xs }) schedule
-    ∙ ap (λ (xs : List Asked). record load { scripts = script ∷ []; schedule = []; commands = xs }) commands)
-
-sum_ones : {X : Type 0} (xs : List X) → sum_by (λ x. 1) xs ≡ length xs
-sum_ones [] = refl
-sum_ones (x ∷ xs) = sum_by-cons (λ y. 1) x xs ∙ (ap (λ n. 1 + n) (sum_ones xs) ∙ omega arith)
-
-rounds_one : (load : Load) (script : List Step) (n : ℕ) → n ≤ length script → flat_map (round_of (one_load load script)) (count_up n) ≡ turns_one n
-rounds_one load script zero h = refl
-rounds_one load script (suc n) h =
-    let f : ℕ → List Turn = round_of (one_load load script) in
-    let here : f n ++ [] ≡ Takes_step 0 ∷ Reads_all ∷ [] = ap (λ b. (cond b (Takes_step 0 ∷ Reads_all ∷ []) [] ++ []) ++ []) (lt_true (0 + n) (length script) (omega arith)) in
-    flat_map-append f (count_up n) (n ∷ [])
-    ∙ (ap (λ ts. ts ++ (f n ++ [])) (rounds_one load script n (omega arith)) ∙ ap (λ ts. turns_one n ++ ts) here)
-
-order_only : (load : Load) (script : List Step) → order_of (one_load load script) ≡ turns_one (length script) ++ Reads_all ∷ []
-order_only load script =
-    let all : steps_in (one_load load script) ≡ length script = sum_by-cons (λ (s : List Step). sum_by (λ (t : Step). 1) s) script [] ∙ (ap (λ n. n + 0) (sum_ones script) ∙ omega arith) in
-    ap (λ n. flat_map (round_of (one_load load script)) (count_up n) ++ Reads_all ∷ []) all
-    ∙ ap (λ ts. ts ++ Reads_all ∷ []) (rounds_one load script (length script) (omega arith))
-
--- a step and a read for each step of the script, and a last read
-pub order_one : (load : Load) (script : List Step) → load.scripts ≡ script ∷ [] → load.schedule ≡ [] → load.commands ≡ [] → order_of load ≡ turns_one (length script) ++ Reads_all ∷ []
-order_one load script scripts schedule commands = ap order_of (only load script scripts schedule commands) ∙ order_only load script
-
-back_one : (n : ℕ) → reverse (turns_one n) ≡ turns_back n
-back_one zero = refl
-back_one (suc n) = reverse-append (turns_one n) (Takes_step 0 ∷ Reads_all ∷ []) ∙ ap (λ ts. Reads_all ∷ Takes_step 0 ∷ ts) (back_one n)
-
-pub back_order : (load : Load) (script : List Step) → load.scripts ≡ script ∷ [] → load.schedule ≡ [] → load.commands ≡ [] → reverse (order_of load) ≡ Reads_all ∷ turns_back (length script)
-back_order load script scripts schedule commands =
-    ap reverse (order_one load script scripts schedule commands)
-    ∙ (reverse-append (turns_one (length script)) (Reads_all ∷ []) ∙ ap (λ ts. Reads_all ∷ ts) (back_one (length script)))
-
-steps_back : (n : ℕ) → count_by is_step (turns_back n) ≡ n
-steps_back zero = refl
-steps_back (suc n) = count-cons is_step Reads_all (Takes_step 0 ∷ turns_back n) ∙ (ap (λ m. 0 + m) (count-cons is_step (Takes_step 0) (turns_back n) ∙ ap (λ m. 1 + m) (steps_back n)) ∙ omega arith)
-
-sends_back : (n : ℕ) → count_by is_send (turns_back n) ≡ 0
-sends_back zero = refl
-sends_back (suc n) = count-cons is_send Reads_all (Takes_step 0 ∷ turns_back n) ∙ ap (λ m. 0 + m) (count-cons is_send (Takes_step 0) (turns_back n) ∙ ap (λ m. 0 + m) (sends_back n))
-
--- THE CALLS' TURNS
-
-abbrev pub plain_turn : StepTurn
-plain_turn = record { writer = 0; command = false }
-
-ordered_back : (load : Load) (items : List Item) (n : ℕ) → ordered_turns load items (turns_back n) ≡ replicate n plain_turn
-ordered_back load items zero = refl
-ordered_back load items (suc n) =
-    let none : nat_lt (count_by (λ i. is_command i.origin) (before_section items (count_by is_step (turns_back n)))) (count_by is_send (turns_back n)) ≡ false =
-    lt_false (count_by (λ i. is_command i.origin) (before_section items (count_by is_step (turns_back n)))) (count_by is_send (turns_back n)) (omega (arith, sends_back n)) in
-    ap (λ (b : Bool). ordered_turns load items (turns_back n) ++ record { writer = 0; command = b } ∷ []) none
-    ∙ (ap (λ ts. ts ++ plain_turn ∷ []) (ordered_back load items n) ∙ (replicate_more n plain_turn ∙ ap (λ m. replicate m plain_turn) (add-one n)))
-
--- WHAT STANDS BEFORE A NUMBER
-
--- all that stands, where it has no more than the number
-pub before_number-all : {X : Type 0} (p : X → Bool) (number : ℕ) (xs : List X) → count_by p xs ≤ number → before_number p number xs ≡ xs
-before_number-all p number [] h = refl
-before_number-all p number (x ∷ xs) h = ap (λ b. cond b (before_number p number xs) (x ∷ xs)) (lt_false number (count_by p (x ∷ xs)) h)
-
--- the first element goes, where more than the number pass
-pub before_number-more : {X : Type 0} (p : X → Bool) (number : ℕ) (x : X) (xs : List X) → number < count_by p (x ∷ xs) → before_number p number (x ∷ xs) ≡ before_number p number xs
-before_number-more p number x xs h = ap (λ b. cond b (before_number p number xs) (x ∷ xs)) (lt_true number (count_by p (x ∷ xs)) h)
-
--- the turns before a step
-before_back : (j n : ℕ) → j ≤ n → before_number is_step j (turns_back n) ≡ turns_back j
-before_back zero zero h = refl
-before_back (suc j) zero h = absurd (omega (arith, h))
-before_back j (suc n) h = elim (cases_order j (suc n)) as (λ w. before_number is_step j (turns_back (suc n)) ≡ turns_back j) [
-  | inl same ↦ before_number-all is_step j (turns_back (suc n)) (omega (arith, steps_back (suc n))) ∙ ap turns_back (sym same)
-  | inr (inl below) ↦
-      let few : j ≤ n = omega arith in
-      let first : j < count_by is_step (turns_back (suc n)) = omega (arith, steps_back (suc n)) in
-      let second : j < count_by is_step (Takes_step 0 ∷ turns_back n) = omega (arith, count-cons is_step (Takes_step 0) (turns_back n), steps_back n) in
-      before_number-more is_step j Reads_all (Takes_step 0 ∷ turns_back n) first
-      ∙ (before_number-more is_step j (Takes_step 0) (turns_back n) second ∙ before_back j n few)
-  | inr (inr above) ↦ absurd (omega arith)
-]
-
-before_order : (load : Load) (script : List Step) (j : ℕ) → reverse (order_of load) ≡ Reads_all ∷ turns_back (length script) → j < length script → before_step (order_of load) j ≡ turns_back j
-before_order load script j order h =
-    let more : j < count_by is_step (Reads_all ∷ turns_back (length script)) = omega (arith, count-cons is_step Reads_all (turns_back (length script)), steps_back (length script)) in
-    ap (before_number is_step j) order
-    ∙ (before_number-more is_step j Reads_all (turns_back (length script)) more ∙ before_back j (length script) (omega arith))
-
--- what the host took before a step: nothing before the first, and then all that the sections so far stored
-taken_first : (load : Load) (items : List Item) → taken_in load items (turns_back 0) ≡ 0
-taken_first load items = refl
-
-taken_later : (load : Load) (items : List Item) (j : ℕ) → taken_in load items (turns_back (suc j)) ≡ stored_by load items (suc j)
-taken_later load items j =
-    let e : count_by is_step (Takes_step 0 ∷ turns_back j) ≡ suc j = count-cons is_step (Takes_step 0) (turns_back j) ∙ (ap (λ m. 1 + m) (steps_back j) ∙ omega arith) in
-    ap (stored_by load items) e
-
--- THE LATEST SECTION
-
--- what stands before the latest call, the latest first
-abbrev pub section_start : List Item → List Item
-section_start [] = []
-section_start (i ∷ earlier) = if is_call i.origin then earlier else section_start earlier
-
--- how many calls there are
-abbrev pub calls_in : List Item → ℕ
-calls_in items = count_by (λ i. is_call i.origin) items
-
--- an item of a section that began when the host had read everything; an overflow's is told by the item after it
-pub record IsFresh (load : Load) (earlier : List Item) (item : Item) : Type 0 where
-  pub behind : overflow_freed earlier item.freed ≡ item.freed
-  pub called : is_overflow item.origin ≡ false → 0 < count_by (λ i. is_call i.origin) (item ∷ earlier)
-  pub freed : is_overflow item.origin ≡ false → item.freed ≡ stored_before load (before_overflow (section_start (item ∷ earlier)))
-
--- the journal behind so many sections
-pub record IsUnderWay (load : Load) (items : List Item) (done : ℕ) : Type 0 where
-  pub turns : step_turns items ≡ replicate done plain_turn
-  pub calls : count_by (λ i. is_call i.origin) (latest_first items) ≡ done
-  pub own : count_by (λ i. is_call_of 0 i.origin) items ≡ done
-  pub fresh : EachItem (IsFresh load) (latest_first items)
-
-pub under_way-none : (load : Load) → IsUnderWay load [] 0
-under_way-none load = record { turns = refl; calls = refl; own = refl; fresh = tt }
-
--- the calls with one item more
-pub calls-cons : (i : Item) (earlier : List Item) → calls_in (i ∷ earlier) ≡ cond (is_call i.origin) 1 0 + calls_in earlier
-calls-cons i earlier = count-cons (λ (j : Item). is_call j.origin) i earlier
-
--- the latest section's start is what stands before the latest call's number
-start_is : (j : ℕ) (xs : List Item) → calls_in xs ≡ suc j → before_number (λ (i : Item). is_call i.origin) j xs ≡ section_start xs
-start_is j [] h = absurd (omega arith)
-start_is j (x ∷ xs) h = elim (is_call x.origin) as (λ b. is_call x.origin ≡ b → before_number (λ (i : Item). is_call i.origin) j (x ∷ xs) ≡ cond b xs (section_start xs)) [
-  | true ↦ λ call.
-      let few : calls_in xs ≤ j = omega (arith, calls-cons x xs ∙ ap (λ b. cond b 1 0 + calls_in xs) call) in
-      before_number-more (λ (i : Item). is_call i.origin) j x xs (omega (arith, h)) ∙ before_number-all (λ (i : Item). is_call i.origin) j xs few
-  | false ↦ λ call.
-      let same : calls_in xs ≡ suc j = omega (arith, calls-cons x xs ∙ ap (λ b. cond b 1 0 + calls_in xs) call) in
-      before_number-more (λ (i : Item). is_call i.origin) j x xs (omega (arith, h)) ∙ start_is j xs same
-] refl
-
--- an overflow begins no group
-pub not_head : (o : Origin) → is_overflow o ≡ true → is_head o ≡ false
-not_head (Call writer step) h = cc
-not_head Sync h = cc
-not_head (Reply kind index) h = cc
-not_head (Overflow count) h = refl
-not_head (Command byte param) h = cc
-
--- an overflow is no packet of its own
-pub no_packet : (o : Origin) (outcome : Outcome) → is_overflow o ≡ true → holds_packet o outcome ≡ false
-no_packet (Call writer step) outcome h = cc
-no_packet Sync outcome h = cc
-no_packet (Reply kind index) outcome h = cc
-no_packet (Overflow count) outcome h = refl
-no_packet (Command byte param) outcome h = cc
-
-not_none : (m n : ℕ) → 0 < n → m + n ≡ 0 → ⊥
-not_none m n h e = omega arith
-
--- no overflow stands before a journal's first packet
-no_first : (load : Load) (item : Item) (ys : List Item) → EachItem (IsNextItem load) ys → IsNextItem load ys item → EachItem (IsFresh load) ys → calls_in ys ≡ 0 → ys ≡ []
-no_first load item [] each next fresh h = refl
-no_first load item (o ∷ []) each next fresh h = absurd (at (is_overflow o.origin) refl) where
-  at : (b : Bool) → is_overflow o.origin ≡ b → ⊥
-  at true e =
-      let owes : owes_overflow load (before_overflow (o ∷ [])) item ≡ false = ap (λ b. owes_overflow load (cond b [] (o ∷ [])) item) e ∙ and_right (is_packet item && false) false refl in
-      let both : true ≡ false = sym e ∙ (next.overflow ∙ owes) in
-      cc
-  at false e = let some : 0 < calls_in (o ∷ []) = fresh.1.called e in omega arith
-no_first load item (o ∷ p ∷ ys) each next fresh h = absurd (at (is_overflow o.origin) (is_overflow p.origin) refl refl) where
-  at : (b c : Bool) → is_overflow o.origin ≡ b → is_overflow p.origin ≡ c → ⊥
-  at false c e f = let some : 0 < calls_in (o ∷ p ∷ ys) = fresh.1.called e in omega arith
-  at true true e f =
-      let owes : owes_overflow load (before_overflow (p ∷ ys)) o ≡ false = ap (λ b. (b && is_on load (before_overflow (p ∷ ys))) && nat_lt 0 (pending_at (before_overflow (p ∷ ys)))) (no_packet o.origin o.outcome e) in
-      let both : true ≡ false = sym f ∙ (each.1.overflow ∙ owes) in
-      cc
-  at true false e f =
-      let some : 0 < calls_in (p ∷ ys) = fresh.0.1.called f in
-      let more : calls_in (o ∷ p ∷ ys) ≡ cond (is_call o.origin) 1 0 + calls_in (p ∷ ys) = calls-cons o (p ∷ ys) in
-      not_none (cond (is_call o.origin) 1 0) (calls_in (p ∷ ys)) some (sym more ∙ h)
-
--- behind one call alone, nothing stands before it
-start_first : (load : Load) (xs : List Item) → EachItem (IsNextItem load) xs → EachItem (IsFresh load) xs → calls_in xs ≡ 1 → section_start xs ≡ []
-start_first load [] next each h = refl
-start_first load (x ∷ xs) next each h = elim (is_call x.origin) as (λ b. is_call x.origin ≡ b → cond b xs (section_start xs) ≡ []) [
-  | true ↦ λ call. no_first load x xs next.0 next.1 each.0 (omega (arith, calls-cons x xs ∙ ap (λ b. cond b 1 0 + calls_in xs) call))
-  | false ↦ λ call. start_first load xs next.0 each.0 (omega (arith, calls-cons x xs ∙ ap (λ b. cond b 1 0 + calls_in xs) call))
-] refl
-
--- ONE ITEM MORE
-
--- whether a command follows before the next call does not change by an item that is no command
-has_command-push : (items : List Item) (i : Item) → is_command i.origin ≡ false → has_command (items ++ i ∷ []) ≡ has_command items
-has_command-push [] i h = ap (list_any (λ (j : Item). is_command j.origin)) (take_while-cons (λ (j : Item). not (is_call j.origin)) i []) ∙ at (is_call i.origin) where
-  at : (b : Bool) → list_any (λ (j : Item). is_command j.origin) (cond (not b) (i ∷ []) []) ≡ false
-  at true = refl
-  at false = ap (λ b. b || false) h
-has_command-push (x ∷ items) i h =
-    ap (list_any (λ (j : Item). is_command j.origin)) (take_while-cons (λ (j : Item). not (is_call j.origin)) x (items ++ i ∷ []))
-    ∙ (at (is_call x.origin) (has_command-push items i h) ∙ sym (ap (list_any (λ (j : Item). is_command j.origin)) (take_while-cons (λ (j : Item). not (is_call j.origin)) x items))) where
-      at : (b : Bool) → has_command (items ++ i ∷ []) ≡ has_command items
-          → list_any (λ (j : Item). is_command j.origin) (cond (not b) (x ∷ take_while (λ (j : Item). not (is_call j.origin)) (items ++ i ∷ [])) [])
-          ≡ list_any (λ (j : Item). is_command j.origin) (cond (not b) (x ∷ take_while (λ (j : Item). not (is_call j.origin)) items) [])
-      at true same = refl
-      at false same = ap (λ b. is_command x.origin || b) same
-
-turn_at-push : (o : Origin) (items : List Item) (i : Item) → is_command i.origin ≡ false → turn_at o (items ++ i ∷ []) ≡ turn_at o items
-turn_at-push (Call writer step) items i h = ap (λ b. record { writer = writer; command = b } ∷ []) (has_command-push items i h)
-turn_at-push Sync items i h = refl
-turn_at-push (Reply kind index) items i h = refl
-turn_at-push (Overflow count) items i h = refl
-turn_at-push (Command byte param) items i h = refl
-
-step_turns-push : (items : List Item) (i : Item) → is_command i.origin ≡ false → step_turns (items ++ i ∷ []) ≡ step_turns items ++ turn_at i.origin []
-step_turns-push [] i h = append-nil (turn_at i.origin [])
-step_turns-push (x ∷ items) i h =
-    ap (λ ts. ts ++ step_turns (items ++ i ∷ [])) (turn_at-push x.origin items i h)
-    ∙ (ap (λ ts. turn_at x.origin items ++ ts) (step_turns-push items i h)
-    ∙ sym (append_assoc (turn_at x.origin items) (step_turns items) (turn_at i.origin [])))
-
--- a section begins with a call, before which one overflow may stand
-begins : (load : Load) (items : List Item) (done step : ℕ) (c : Item) → IsUnderWay load items done
-    → c.origin ≡ Call 0 step → overflow_freed (latest_first items) c.freed ≡ c.freed → c.freed ≡ stored_before load (before_overflow (latest_first items)) → IsUnderWay load (items ++ c ∷ []) (done + 1)
-begins load items done step c u origin behind freed =
-    let command : is_command c.origin ≡ false = ap is_command origin in
-    let call : is_call c.origin ≡ true = ap is_call origin in
-    let own : is_call_of 0 c.origin ≡ true = ap (is_call_of 0) origin in
-    let count : calls_in (c ∷ latest_first items) ≡ 1 + done = calls-cons c (latest_first items) ∙ (ap (λ b. cond b 1 0 + calls_in (latest_first items)) call ∙ ap (λ n. 1 + n) u.calls) in
-    record {
-      turns = step_turns-push items c command ∙ (ap (λ o. step_turns items ++ turn_at o []) origin ∙ (ap (λ ts. ts ++ plain_turn ∷ []) u.turns ∙ replicate_more done plain_turn));
-      calls = ap calls_in (latest_first-push items c) ∙ (count ∙ omega arith);
-      own = sum_by_push (λ (i : Item). cond (is_call_of 0 i.origin) 1 0) items c ∙ (ap (λ b. count_by (λ (i : Item). is_call_of 0 i.origin) items + cond b 1 0) own ∙ ap (λ n. n + 1) u.own);
-      fresh = each-push (IsFresh load) items c u.fresh record {
-        behind = behind;
-        called = λ other. omega (arith, count);
-        freed = λ other. freed ∙ sym (ap (λ b. stored_before load (before_overflow (cond b (latest_first items) (section_start (latest_first items))))) call);
-      };
-    }
-
-not_own : (o : Origin) → is_call o ≡ false → is_call_of 0 o ≡ false
-not_own (Call writer step) h = cc
-not_own Sync h = refl
-not_own (Reply kind index) h = refl
-not_own (Overflow count) h = refl
-not_own (Command byte param) h = refl
-
-no_turn : (o : Origin) → is_call o ≡ false → turn_at o [] ≡ []
-no_turn (Call writer step) h = cc
-no_turn Sync h = refl
-no_turn (Reply kind index) h = refl
-no_turn (Overflow count) h = refl
-no_turn (Command byte param) h = refl
-
--- an item that is no head changes no count
-keeps_counts : (load : Load) (items : List Item) (done : ℕ) (i : Item) → IsUnderWay load items done
-    → is_head i.origin ≡ false → IsFresh load (latest_first items) i → IsUnderWay load (items ++ i ∷ []) done
-keeps_counts load items done i u head here =
-    let parts = or_parts (is_call i.origin) (is_command i.origin) head in
-    let call : is_call i.origin ≡ false = parts.0 in
-    let command : is_command i.origin ≡ false = parts.1 in
-    let count : calls_in (i ∷ latest_first items) ≡ done = calls-cons i (latest_first items) ∙ (ap (λ b. cond b 1 0 + calls_in (latest_first items)) call ∙ (ap (λ n. 0 + n) u.calls ∙ omega arith)) in
-    record {
-      turns = step_turns-push items i command ∙ (ap (λ ts. step_turns items ++ ts) (no_turn i.origin call) ∙ (append-nil (step_turns items) ∙ u.turns));
-      calls = ap calls_in (latest_first-push items i) ∙ count;
-      own = sum_by_push (λ (j : Item). cond (is_call_of 0 j.origin) 1 0) items i ∙ (ap (λ b. count_by (λ (j : Item). is_call_of 0 j.origin) items + cond b 1 0) (not_own i.origin call) ∙ (ap (λ n. n + 0) u.own ∙ omega arith));
-      fresh = each-push (IsFresh load) items i u.fresh here;
-    }
-
--- a section goes on with an answer, or with an overflow before one
-goes_on : (load : Load) (items : List Item) (done : ℕ) (i : Item) → IsUnderWay load items done → 0 < done
-    → is_head i.origin ≡ false → overflow_freed (latest_first items) i.freed ≡ i.freed → i.freed ≡ stored_before load (before_overflow (section_start (latest_first items)))
-    → IsUnderWay load (items ++ i ∷ []) done
-goes_on load items done i u some head behind freed =
-    let parts = or_parts (is_call i.origin) (is_command i.origin) head in
-    let call : is_call i.origin ≡ false = parts.0 in
-    let count : calls_in (i ∷ latest_first items) ≡ done = calls-cons i (latest_first items) ∙ (ap (λ b. cond b 1 0 + calls_in (latest_first items)) call ∙ (ap (λ n. 0 + n) u.calls ∙ omega arith)) in
-    keeps_counts load items done i u head record {
-      behind = behind;
-      called = λ other. omega (arith, count);
-      freed = λ other. freed ∙ sym (ap (λ b. stored_before load (before_overflow (cond b (latest_first items) (section_start (latest_first items))))) call);
-    }
-
-same_start : (items : List Item) (i : Item) → is_call i.origin ≡ false → section_start (latest_first (items ++ i ∷ [])) ≡ section_start (latest_first items)
-same_start items i call = ap section_start (latest_first-push items i) ∙ ap (λ b. cond b (latest_first items) (section_start (latest_first items))) call
-
-first_start : (items : List Item) (c : Item) → is_call c.origin ≡ true → section_start (latest_first (items ++ c ∷ [])) ≡ latest_first items
-first_start items c call = ap section_start (latest_first-push items c) ∙ ap (λ b. cond b (latest_first items) (section_start (latest_first items))) call
+use Rattle.sv_core.proofs.WriterOrder.{back_order, before_order, count-cons, ordered_back}
+use Rattle.sv_core.proofs.WriterOrder.{taken_later, turns_back}
+use Rattle.sv_core.proofs.LatestSection.{IsFresh, IsUnderWay, begins, calls_in, first_start}
+use Rattle.sv_core.proofs.LatestSection.{goes_on, keeps_counts, no_packet, not_head, same_start}
+use Rattle.sv_core.proofs.LatestSection.{section_start, start_first, start_is}
 
 -- A SECTION MORE
 
 abbrev IsAnswer : Item → Type 0
 IsAnswer i = is_head i.origin ≡ false
 
--- behind an item with this freed, an overflow has it too
-behind-push : (items : List Item) (i : Item) (freed : ℕ) → i.freed ≡ freed → overflow_freed (latest_first (items ++ i ∷ [])) freed ≡ freed
-behind-push items i freed e = ap (λ (is : List Item). overflow_freed is freed) (latest_first-push items i) ∙ at (is_overflow i.origin) where
-  at : (b : Bool) → cond b i.freed freed ≡ freed
-  at true = e
-  at false = refl
+-- after an item with this freed, an overflow has it too
+behind-push : (items : List Item) (i : Item) (freed : ℕ) → i.freed ≡ freed
+    → overflow_freed (latest_first (items ++ i ∷ [])) freed ≡ freed
+behind-push items i freed e =
+    ap (λ (is : List Item). overflow_freed is freed) (latest_first-push items i) ∙ at
+    (is_overflow i.origin) where
+      at : (b : Bool) → cond b i.freed freed ≡ freed
+      at true = e
+      at false = refl
 
 -- the answers of a section, one after another
-all_go_on : (load : Load) (items rest : List Item) (done freed : ℕ) → IsUnderWay load items done → 0 < done
-    → stored_before load (before_overflow (section_start (latest_first items))) ≡ freed → overflow_freed (latest_first items) freed ≡ freed
+all_go_on : (load : Load) (items rest : List Item) (done freed : ℕ) → IsUnderWay load items done
+    → 0 < done
+    → stored_before load (before_overflow (section_start (latest_first items))) ≡ freed →
+    overflow_freed (latest_first items) freed ≡ freed
     → All (λ i. i.freed ≡ freed) rest → All IsAnswer rest → IsUnderWay load (items ++ rest) done
-all_go_on load items [] done freed u some from behind all answers = subst (λ is. IsUnderWay load is done) (sym (append-nil items)) u
+all_go_on load items [] done freed u some from behind all answers =
+    subst (λ is. IsUnderWay load is done) (sym (append-nil items)) u
 all_go_on load items (i ∷ rest) done freed u some from behind all answers =
     let answer : is_head i.origin ≡ false = All-head IsAnswer i rest answers in
     let here : i.freed ≡ freed = All-head (λ (j : Item). j.freed ≡ freed) i rest all in
     let call = or_parts (is_call i.origin) (is_command i.origin) answer in
-    let next : IsUnderWay load (items ++ i ∷ []) done = goes_on load items done i u some answer (subst (λ n. overflow_freed (latest_first items) n ≡ n) (sym here) behind) (here ∙ sym from) in
+    let next : IsUnderWay load (items ++ i ∷ []) done = goes_on load items done i u some answer
+    (subst (λ n. overflow_freed (latest_first items) n ≡ n) (sym here) behind) (here ∙ sym from)
+    in
     subst (λ is. IsUnderWay load is done) (append_assoc items (i ∷ []) rest)
-    (all_go_on load (items ++ i ∷ []) rest done freed next some (ap (λ is. stored_before load (before_overflow is)) (same_start items i call.0) ∙ from)
+    (all_go_on load (items ++ i ∷ []) rest done freed next some
+    (ap (λ is. stored_before load (before_overflow is)) (same_start items i call.0) ∙ from)
     (behind-push items i freed here)
     (All-tail (λ (j : Item). j.freed ≡ freed) i rest all)
     (All-tail IsAnswer i rest answers))
 
 -- the origins of two lists of items
-pub origins_of-append : (items more : List Item) → origins_of (items ++ more) ≡ origins_of items ++ origins_of more
-origins_of-append items more = ap (filter (λ o. not (is_overflow o))) (map-append (λ (i : Item). i.origin) items more) ∙ filter-append (λ o. not (is_overflow o)) (map (λ (i : Item). i.origin) items) (map (λ (i : Item). i.origin) more)
+pub origins_of-append : (items more : List Item)
+    → origins_of (items ++ more) ≡ origins_of items ++ origins_of more
+origins_of-append items more =
+    ap (filter (λ o. not (is_overflow o))) (map-append (λ (i : Item). i.origin) items more) ∙
+    filter-append (λ o. not (is_overflow o)) (map (λ (i : Item). i.origin) items)
+    (map (λ (i : Item). i.origin) more)
 
 -- the origins with one more in front
-pub origins_of-cons : (i : Item) (more : List Item) → is_overflow i.origin ≡ false → origins_of (i ∷ more) ≡ i.origin ∷ origins_of more
-origins_of-cons i more other = ap (λ b. cond (not b) (i.origin ∷ origins_of more) (origins_of more)) other
+pub origins_of-cons : (i : Item) (more : List Item) → is_overflow i.origin ≡ false
+    → origins_of (i ∷ more) ≡ i.origin ∷ origins_of more
+origins_of-cons i more other =
+    ap (λ b. cond (not b) (i.origin ∷ origins_of more) (origins_of more)) other
 
 abbrev groups_of : Load → List Origin → List Origin
 groups_of load os = flat_map (group_of load) (filter is_head os)
 
-groups_of-append : (load : Load) (os more : List Origin) → groups_of load (os ++ more) ≡ groups_of load os ++ groups_of load more
-groups_of-append load os more = ap (flat_map (group_of load)) (filter-append is_head os more) ∙ flat_map-append (group_of load) (filter is_head os) (filter is_head more)
+groups_of-append : (load : Load) (os more : List Origin)
+    → groups_of load (os ++ more) ≡ groups_of load os ++ groups_of load more
+groups_of-append load os more =
+    ap (flat_map (group_of load)) (filter-append is_head os more) ∙ flat_map-append (group_of load)
+    (filter is_head os) (filter is_head more)
 
 -- what a legal journal adds to a legal one is groups
-more_groups : (load : Load) (before more : List Item) → IsLegal load before → IsLegal load (before ++ more) → origins_of more ≡ groups_of load (origins_of more)
+more_groups : (load : Load) (before more : List Item) → IsLegal load before
+    → IsLegal load (before ++ more) → origins_of more ≡ groups_of load (origins_of more)
 more_groups load before more old new =
     append_cancel_left (origins_of before) (origins_of more) (groups_of load (origins_of more))
     (sym (origins_of-append before more)
@@ -402,32 +108,50 @@ more_groups load before more old new =
 -- no head stands among these
 all_answers : (items : List Item) → filter is_head (origins_of items) ≡ [] → All IsAnswer items
 all_answers [] none = All-nil IsAnswer
-all_answers (i ∷ items) none = at (is_overflow i.origin) (is_head i.origin) refl refl none (all_answers items) where
-  at : (b c : Bool) → is_overflow i.origin ≡ b → is_head i.origin ≡ c → filter is_head (cond (not b) (i.origin ∷ origins_of items) (origins_of items)) ≡ []
-      → (filter is_head (origins_of items) ≡ [] → All IsAnswer items) → All IsAnswer (i ∷ items)
-  at true c e f none more = All-cons IsAnswer i items (not_head i.origin e) (more none)
-  at false true e f none more =
-      let shape : i.origin ∷ filter is_head (origins_of items) ≡ [] = sym (ap (λ b. cond b (i.origin ∷ filter is_head (origins_of items)) (filter is_head (origins_of items))) f) ∙ none in
-      cc
-  at false false e f none more = All-cons IsAnswer i items f (more (sym (ap (λ b. cond b (i.origin ∷ filter is_head (origins_of items)) (filter is_head (origins_of items))) f) ∙ none))
+all_answers (i ∷ items) none =
+    at (is_overflow i.origin) (is_head i.origin) refl refl none (all_answers items) where
+      at : (b c : Bool) → is_overflow i.origin ≡ b → is_head i.origin ≡ c → filter is_head
+          (cond (not b) (i.origin ∷ origins_of items) (origins_of items)) ≡ []
+          → (filter is_head (origins_of items) ≡ [] → All IsAnswer items) → All IsAnswer (i ∷ items)
+      at true c e f none more = All-cons IsAnswer i items (not_head i.origin e) (more none)
+      at false true e f none more =
+          let shape : i.origin ∷ filter is_head (origins_of items) ≡ [] = sym
+          (ap (λ b. cond b (i.origin ∷ filter is_head (origins_of items))
+          (filter is_head (origins_of items))) f) ∙ none in
+          cc
+      at false false e f none more = All-cons IsAnswer i items f
+          (more (sym (ap
+          (λ b. cond b (i.origin ∷ filter is_head (origins_of items))
+          (filter is_head (origins_of items))) f) ∙ none))
 
--- a call behind these items, and its answers
-call_more : (load : Load) (items rest : List Item) (c : Item) (done step freed : ℕ) (os : List Origin) → IsUnderWay load items done
-    → stored_before load (before_overflow (latest_first items)) ≡ freed → overflow_freed (latest_first items) freed ≡ freed
-    → is_overflow c.origin ≡ false → origins_of (c ∷ rest) ≡ Call 0 step ∷ os → filter is_head (origins_of (c ∷ rest)) ≡ Call 0 step ∷ []
+-- a call after these items, and its answers
+call_more : (load : Load) (items rest : List Item) (c : Item) (done step freed : ℕ)
+    (os : List Origin)
+    → IsUnderWay load items done
+    → stored_before load (before_overflow (latest_first items)) ≡ freed → overflow_freed
+    (latest_first items) freed ≡ freed
+    → is_overflow c.origin ≡ false → origins_of (c ∷ rest) ≡ Call 0 step ∷ os → filter is_head
+    (origins_of (c ∷ rest)) ≡ Call 0 step ∷ []
     → All (λ i. i.freed ≡ freed) (c ∷ rest) → IsUnderWay load (items ++ (c ∷ rest)) (done + 1)
 call_more load items rest c done step freed os u from behind other group heads all =
     let shape : origins_of (c ∷ rest) ≡ c.origin ∷ origins_of rest = origins_of-cons c rest other in
-    let origin : c.origin ≡ Call 0 step = heads_same c.origin (Call 0 step) (origins_of rest) os (sym shape ∙ group) in
+    let origin : c.origin ≡ Call 0 step = heads_same c.origin (Call 0 step) (origins_of rest) os
+    (sym shape ∙ group) in
     let head : is_head c.origin ≡ true = ap is_head origin in
     let later : c.origin ∷ filter is_head (origins_of rest) ≡ Call 0 step ∷ [] =
-    sym (ap (filter is_head) shape ∙ ap (λ b. cond b (c.origin ∷ filter is_head (origins_of rest)) (filter is_head (origins_of rest))) head) ∙ heads in
-    let none : filter is_head (origins_of rest) ≡ [] = tails_same c.origin (Call 0 step) (filter is_head (origins_of rest)) [] later in
+    sym (ap (filter is_head) shape ∙ ap
+    (λ b. cond b (c.origin ∷ filter is_head (origins_of rest))
+    (filter is_head (origins_of rest))) head) ∙ heads in
+    let none : filter is_head (origins_of rest) ≡ [] = tails_same c.origin (Call 0 step)
+    (filter is_head (origins_of rest)) [] later in
     let here : c.freed ≡ freed = All-head (λ (j : Item). j.freed ≡ freed) c rest all in
-    let next : IsUnderWay load (items ++ c ∷ []) (done + 1) = begins load items done step c u origin (subst (λ n. overflow_freed (latest_first items) n ≡ n) (sym here) behind) (here ∙ sym from) in
+    let next : IsUnderWay load (items ++ c ∷ []) (done + 1) = begins load items done step c u origin
+    (subst (λ n. overflow_freed (latest_first items) n ≡ n) (sym here) behind) (here ∙ sym from)
+    in
     subst (λ is. IsUnderWay load is (done + 1)) (append_assoc items (c ∷ []) rest)
     (all_go_on load (items ++ c ∷ []) rest (done + 1) freed next (omega arith)
-    (ap (λ is. stored_before load (before_overflow is)) (first_start items c (ap is_call origin)) ∙ from)
+    (ap (λ is. stored_before load (before_overflow is)) (first_start items c (ap is_call origin)) ∙
+    from)
     (behind-push items c freed here)
     (All-tail (λ (j : Item). j.freed ≡ freed) c rest all)
     (all_answers rest none)) where
@@ -438,97 +162,143 @@ call_more load items rest c done step freed os u from behind other group heads a
       tails_same a b os more e = cc
 
 -- what holds of each item of a longer journal
-pub each-front : (P : List Item → Item → Type 0) (xs ys : List Item) → EachItem P (xs ++ ys) → EachItem P ys
+pub each-front : (P : List Item → Item → Type 0) (xs ys : List Item) → EachItem P (xs ++ ys)
+    → EachItem P ys
 each-front P [] ys each = each
 each-front P (x ∷ xs) ys each = each-front P xs ys each.0
 
-each-before : (P : List Item → Item → Type 0) (items more : List Item) → EachItem P (latest_first (items ++ more)) → EachItem P (latest_first items)
-each-before P items more each = each-front P (reverse more) (latest_first items) (subst (EachItem P) (reverse-append items more) each)
+each-before : (P : List Item → Item → Type 0) (items more : List Item)
+    → EachItem P (latest_first (items ++ more)) → EachItem P (latest_first items)
+each-before P items more each =
+    each-front P (reverse more) (latest_first items)
+    (subst (EachItem P) (reverse-append items more) each)
 
-next_is : (load : Load) (items more : List Item) (i : Item) → EachItem (IsNextItem load) (latest_first (items ++ (i ∷ more))) → IsNextItem load (latest_first items) i
+next_is : (load : Load) (items more : List Item) (i : Item)
+    → EachItem (IsNextItem load) (latest_first (items ++ (i ∷ more)))
+    → IsNextItem load (latest_first items) i
 next_is load items more i each =
-    let front : EachItem (IsNextItem load) (latest_first (items ++ i ∷ [])) = each-before (IsNextItem load) (items ++ i ∷ []) more (subst (λ is. EachItem (IsNextItem load) (latest_first is)) (sym (append_assoc items (i ∷ []) more)) each) in
-    let both : EachItem (IsNextItem load) (i ∷ latest_first items) = subst (EachItem (IsNextItem load)) (latest_first-push items i) front in
+    let front : EachItem (IsNextItem load) (latest_first (items ++ i ∷ [])) = each-before
+    (IsNextItem load) (items ++ i ∷ []) more
+    (subst (λ is. EachItem (IsNextItem load) (latest_first is))
+    (sym (append_assoc items (i ∷ []) more)) each) in
+    let both : EachItem (IsNextItem load) (i ∷ latest_first items) = subst
+    (EachItem (IsNextItem load)) (latest_first-push items i) front in
     both.1
 
--- no overflow stands directly behind an overflow
-not_two : (load : Load) (items : List Item) (o p : Item) → is_overflow o.origin ≡ true → is_overflow p.origin ≡ true → IsNextItem load (latest_first (items ++ o ∷ [])) p → ⊥
+-- no overflow stands directly after an overflow
+not_two : (load : Load) (items : List Item) (o p : Item) → is_overflow o.origin ≡ true
+    → is_overflow p.origin ≡ true → IsNextItem load (latest_first (items ++ o ∷ [])) p → ⊥
 not_two load items o p e f next =
-    let here : IsNextItem load (o ∷ latest_first items) p = subst (λ es. IsNextItem load es p) (latest_first-push items o) next in
-    let owes : owes_overflow load (before_overflow (o ∷ latest_first items)) p ≡ false = ap (λ b. (b && is_on load (before_overflow (o ∷ latest_first items))) && nat_lt 0 (pending_at (before_overflow (o ∷ latest_first items)))) (no_packet p.origin p.outcome f) in
+    let here : IsNextItem load (o ∷ latest_first items) p = subst (λ es. IsNextItem load es p)
+    (latest_first-push items o) next in
+    let owes : owes_overflow load (before_overflow (o ∷ latest_first items)) p ≡ false = ap
+    (λ b. (b && is_on load (before_overflow (o ∷ latest_first items))) && nat_lt 0
+    (pending_at (before_overflow (o ∷ latest_first items)))) (no_packet p.origin p.outcome f) in
     let both : true ≡ false = sym e ∙ (here.overflow ∙ owes) in
     cc
 
 -- where no overflow stands directly before, nothing is left out
-pub alone : (earlier : List Item) → is_after_overflow earlier ≡ false → before_overflow earlier ≡ earlier
+pub alone : (earlier : List Item) → is_after_overflow earlier ≡ false
+    → before_overflow earlier ≡ earlier
 alone [] h = refl
 alone (i ∷ earlier) h = ap (λ b. cond b earlier (i ∷ earlier)) h
 
-unmoved : (earlier : List Item) (freed : ℕ) → is_after_overflow earlier ≡ false → overflow_freed earlier freed ≡ freed
+unmoved : (earlier : List Item) (freed : ℕ) → is_after_overflow earlier ≡ false
+    → overflow_freed earlier freed ≡ freed
 unmoved [] freed h = refl
 unmoved (i ∷ earlier) freed h = ap (λ b. cond b i.freed freed) h
 
-section_more : (load : Load) (before more : List Item) (done step : ℕ) → IsUnderWay load before done → IsLegal load before → IsLegal load (before ++ more)
+section_more : (load : Load) (before more : List Item) (done step : ℕ) → IsUnderWay load before done
+    → IsLegal load before → IsLegal load (before ++ more)
     → filter is_head (origins_of more) ≡ Call 0 step ∷ []
-    → All (λ i. i.freed ≡ length (stream_of load before)) more → IsUnderWay load (before ++ more) (done + 1)
+    → All (λ i. i.freed ≡ length (stream_of load before)) more → IsUnderWay load (before ++ more)
+    (done + 1)
 section_more load before [] done step u old new heads all = cc
-section_more load before (c ∷ []) done step u old new heads all = at (is_overflow c.origin) refl where
-  group : origins_of (c ∷ []) ≡ Call 0 step ∷ (answers_of load (Call 0 step) ++ [])
-  group = more_groups load before (c ∷ []) old new ∙ ap (flat_map (group_of load)) heads
+section_more load before (c ∷ []) done step u old new heads all =
+    at (is_overflow c.origin) refl where
+      group : origins_of (c ∷ []) ≡ Call 0 step ∷ (answers_of load (Call 0 step) ++ [])
+      group = more_groups load before (c ∷ []) old new ∙ ap (flat_map (group_of load)) heads
 
-  at : (b : Bool) → is_overflow c.origin ≡ b → IsUnderWay load (before ++ c ∷ []) (done + 1)
-  at true e =
-      let none : [] ≡ Call 0 step ∷ (answers_of load (Call 0 step) ++ []) = sym (ap (λ b. cond (not b) (c.origin ∷ []) []) e) ∙ group in
-      cc
-  at false e = call_more load before [] c done step (length (stream_of load before)) (answers_of load (Call 0 step) ++ []) u (ap (stored_before load) (alone (latest_first before) old.ends)) (unmoved (latest_first before) (length (stream_of load before)) old.ends) e group heads all
-section_more load before (c ∷ d ∷ rest) done step u old new heads all = at (is_overflow c.origin) (is_overflow d.origin) refl refl where
-  group : origins_of (c ∷ d ∷ rest) ≡ Call 0 step ∷ (answers_of load (Call 0 step) ++ [])
-  group = more_groups load before (c ∷ d ∷ rest) old new ∙ ap (flat_map (group_of load)) heads
+      at : (b : Bool) → is_overflow c.origin ≡ b → IsUnderWay load (before ++ c ∷ []) (done + 1)
+      at true e =
+          let none : [] ≡ Call 0 step ∷ (answers_of load (Call 0 step) ++ []) = sym
+          (ap (λ b. cond (not b) (c.origin ∷ []) []) e) ∙ group in
+          cc
+      at false e = call_more load before [] c done step (length (stream_of load before))
+          (answers_of load (Call 0 step) ++ []) u
+          (ap (stored_before load) (alone (latest_first before) old.ends))
+          (unmoved (latest_first before) (length (stream_of load before)) old.ends) e group heads all
+section_more load before (c ∷ d ∷ rest) done step u old new heads all =
+    at (is_overflow c.origin) (is_overflow d.origin) refl refl where
+      group : origins_of (c ∷ d ∷ rest) ≡ Call 0 step ∷ (answers_of load (Call 0 step) ++ [])
+      group = more_groups load before (c ∷ d ∷ rest) old new ∙ ap (flat_map (group_of load)) heads
 
-  at : (b f : Bool) → is_overflow c.origin ≡ b → is_overflow d.origin ≡ f → IsUnderWay load (before ++ (c ∷ d ∷ rest)) (done + 1)
-  at false f e g = call_more load before (d ∷ rest) c done step (length (stream_of load before)) (answers_of load (Call 0 step) ++ []) u (ap (stored_before load) (alone (latest_first before) old.ends)) (unmoved (latest_first before) (length (stream_of load before)) old.ends) e group heads all
-  at true true e g = absurd (not_two load before c d e g (next_is load (before ++ c ∷ []) rest d (subst (λ is. EachItem (IsNextItem load) (latest_first is)) (sym (append_assoc before (c ∷ []) (d ∷ rest))) new.each)))
-  at true false e g =
-      let skip : origins_of (c ∷ d ∷ rest) ≡ origins_of (d ∷ rest) = ap (λ b. cond (not b) (c.origin ∷ origins_of (d ∷ rest)) (origins_of (d ∷ rest))) e in
-      let here : c.freed ≡ length (stream_of load before) = All-head (λ (j : Item). j.freed ≡ length (stream_of load before)) c (d ∷ rest) all in
-      let next : IsUnderWay load (before ++ c ∷ []) done = keeps_counts load before done c u (not_head c.origin e) record {
-        behind = unmoved (latest_first before) c.freed old.ends;
-        called = λ other. absurd (true≢false (sym e ∙ other));
-        freed = λ other. absurd (true≢false (sym e ∙ other));
-      } in
-      let from : stored_before load (before_overflow (latest_first (before ++ c ∷ []))) ≡ length (stream_of load before) =
-      ap (λ (is : List Item). stored_before load (before_overflow is)) (latest_first-push before c) ∙ ap (λ b. stored_before load (cond b (latest_first before) (c ∷ latest_first before))) e in
-      subst (λ is. IsUnderWay load is (done + 1)) (append_assoc before (c ∷ []) (d ∷ rest))
-      (call_more load (before ++ c ∷ []) rest d done step (length (stream_of load before)) (answers_of load (Call 0 step) ++ []) next from (behind-push before c (length (stream_of load before)) here) g
-      (sym skip ∙ group) (ap (filter is_head) (sym skip) ∙ heads)
-      (All-tail (λ (j : Item). j.freed ≡ length (stream_of load before)) c (d ∷ rest) all))
+      at : (b f : Bool) → is_overflow c.origin ≡ b → is_overflow d.origin ≡ f → IsUnderWay load
+          (before ++ (c ∷ d ∷ rest)) (done + 1)
+      at false f e g = call_more load before (d ∷ rest) c done step (length (stream_of load before))
+          (answers_of load (Call 0 step) ++ []) u
+          (ap (stored_before load) (alone (latest_first before) old.ends))
+          (unmoved (latest_first before) (length (stream_of load before)) old.ends) e group heads all
+      at true true e g = absurd (not_two load before c d e g
+          (next_is load (before ++ c ∷ []) rest d
+          (subst (λ is. EachItem (IsNextItem load) (latest_first is))
+          (sym (append_assoc before (c ∷ []) (d ∷ rest))) new.each)))
+      at true false e g =
+          let skip : origins_of (c ∷ d ∷ rest) ≡ origins_of (d ∷ rest) = ap
+          (λ b. cond (not b) (c.origin ∷ origins_of (d ∷ rest)) (origins_of (d ∷ rest))) e in
+          let here : c.freed ≡ length (stream_of load before) = All-head
+          (λ (j : Item). j.freed ≡ length (stream_of load before)) c (d ∷ rest) all in
+          let next : IsUnderWay load (before ++ c ∷ []) done = keeps_counts load before done c u
+          (not_head c.origin e) record {
+            behind = unmoved (latest_first before) c.freed old.ends;
+            called = λ other. absurd (true≢false (sym e ∙ other));
+            freed = λ other. absurd (true≢false (sym e ∙ other));
+          } in
+          let from : stored_before load (before_overflow (latest_first (before ++ c ∷ []))) ≡ length
+          (stream_of load before) =
+          ap (λ (is : List Item). stored_before load (before_overflow is)) (latest_first-push before c)
+          ∙ ap (λ b. stored_before load (cond b (latest_first before) (c ∷ latest_first before))) e
+          in
+          subst (λ is. IsUnderWay load is (done + 1)) (append_assoc before (c ∷ []) (d ∷ rest))
+          (call_more load (before ++ c ∷ []) rest d done step (length (stream_of load before))
+          (answers_of load (Call 0 step) ++ []) next from
+          (behind-push before c (length (stream_of load before)) here) g
+          (sym skip ∙ group) (ap (filter is_head) (sym skip) ∙ heads)
+          (All-tail (λ (j : Item). j.freed ≡ length (stream_of load before)) c (d ∷ rest) all))
 
 -- a section of the writer with no command, before which everything that was stored had been read
-pub under_way-more : (load : Load) (before after : List Item) (done freed : ℕ) → IsUnderWay load before done
+pub under_way-more : (load : Load) (before after : List Item) (done freed : ℕ)
+    → IsUnderWay load before done
     → IsLegal load before → IsLegal load after → (s : IsSection before after 0 None)
     → freed ≡ length (stream_of load before) → All (λ i. i.freed ≡ freed) s.more
     → IsUnderWay load after (done + 1)
 under_way-more load before after done freed u old new s same all =
     subst (λ is. IsUnderWay load is (done + 1)) (sym s.longer)
-    (section_more load before s.more done (count_by (λ i. is_call_of 0 i.origin) before) u old (subst (IsLegal load) s.longer new) s.heads
+    (section_more load before s.more done (count_by (λ i. is_call_of 0 i.origin) before) u old
+    (subst (IsLegal load) s.longer new) s.heads
     (subst (λ n. All (λ i. i.freed ≡ n) s.more) same all))
 
 -- THE END
 
-below_more : (p : Item → Bool) (j : ℕ) (later xs : List Item) → j < count_by p xs → j < count_by p (later ++ xs)
+below_more : (p : Item → Bool) (j : ℕ) (later xs : List Item) → j < count_by p xs
+    → j < count_by p (later ++ xs)
 below_more p j later xs h = omega (arith, sum_by-append (λ (i : Item). cond (p i) 1 0) later xs)
 
 -- the start of an item's section is what stands before its call's number
-section_is : (items later xs : List Item) (j : ℕ) → latest_first items ≡ later ++ xs → calls_in xs ≡ suc j → before_section items j ≡ before_overflow (section_start xs)
+section_is : (items later xs : List Item) (j : ℕ) → latest_first items ≡ later ++ xs
+    → calls_in xs ≡ suc j → before_section items j ≡ before_overflow (section_start xs)
 section_is items later xs j e h =
     ap (λ (ys : List Item). before_overflow (before_number (λ (i : Item). is_call i.origin) j ys)) e
-    ∙ ap before_overflow (before_number-append (λ (i : Item). is_call i.origin) j later xs (omega (arith, h)) ∙ start_is j xs h)
+    ∙ ap before_overflow (before_number-append (λ (i : Item). is_call i.origin) j later xs
+    (omega (arith, h)) ∙ start_is j xs h)
 
 -- what the host had taken before an item's section is all that was stored then
 taken_at : (load : Load) (script : List Step) (items later xs : List Item) (j : ℕ)
     → reverse (order_of load) ≡ Reads_all ∷ turns_back (length script)
-    → latest_first items ≡ later ++ xs → EachItem (IsNextItem load) xs → EachItem (IsFresh load) xs → calls_in xs ≡ suc j → j < length script
-    → taken_in load items (before_step (order_of load) j) ≡ stored_before load (before_overflow (section_start xs))
+    → latest_first items ≡ later ++ xs → EachItem (IsNextItem load) xs → EachItem (IsFresh load) xs
+    → calls_in xs ≡ suc j → j < length script
+    → taken_in load items (before_step (order_of load) j) ≡ stored_before load
+    (before_overflow (section_start xs))
 taken_at load script items later xs zero order e next each h few =
     ap (taken_in load items) (before_order load script zero order few)
     ∙ sym (ap (λ is. stored_before load (before_overflow is)) (start_first load xs next each h))
@@ -537,7 +307,8 @@ taken_at load script items later xs (suc k) order e next each h few =
     ∙ (taken_later load items k ∙ ap (stored_before load) (section_is items later xs (suc k) e h))
 
 any_taken : (load : Load) (turns : List Turn) (items earlier : List Item) (item : Item) (o : Origin)
-    → (is_overflow o ≡ false → item.freed ≡ taken_in load items (before_step turns (count_by (λ i. is_call i.origin) (item ∷ earlier) - 1)))
+    → (is_overflow o ≡ false → item.freed ≡ taken_in load items
+    (before_step turns (count_by (λ i. is_call i.origin) (item ∷ earlier) - 1)))
     → IsTaken load turns items earlier item o
 any_taken load turns items earlier item (Call writer step) h = h refl
 any_taken load turns items earlier item Sync h = h refl
@@ -546,48 +317,79 @@ any_taken load turns items earlier item (Overflow count) h = tt
 any_taken load turns items earlier item (Command byte param) h = h refl
 
 item_taken : (load : Load) (script : List Step) (items later earlier : List Item) (i : Item)
-    → reverse (order_of load) ≡ Reads_all ∷ turns_back (length script) → calls_in (latest_first items) ≡ length script
-    → latest_first items ≡ later ++ (i ∷ earlier) → EachItem (IsNextItem load) (i ∷ earlier) → EachItem (IsFresh load) (i ∷ earlier)
-    → is_overflow i.origin ≡ false → i.freed ≡ taken_in load items (before_step (order_of load) (calls_in (i ∷ earlier) - 1))
+    → reverse (order_of load) ≡ Reads_all ∷ turns_back (length script) → calls_in
+    (latest_first items) ≡ length script
+    → latest_first items ≡ later ++ (i ∷ earlier) → EachItem (IsNextItem load) (i ∷ earlier) →
+    EachItem (IsFresh load) (i ∷ earlier)
+    → is_overflow i.origin ≡ false → i.freed ≡ taken_in load items
+    (before_step (order_of load) (calls_in (i ∷ earlier) - 1))
 item_taken load script items later earlier i order calls e next each other =
     let some : 0 < calls_in (i ∷ earlier) = each.1.called other in
     let h : calls_in (i ∷ earlier) ≡ suc (calls_in (i ∷ earlier) - 1) = omega arith in
-    let within : calls_in (i ∷ earlier) - 1 < calls_in (later ++ (i ∷ earlier)) = below_more (λ (j : Item). is_call j.origin) (calls_in (i ∷ earlier) - 1) later (i ∷ earlier) (omega arith) in
-    let few : calls_in (i ∷ earlier) - 1 < length script = subst (λ n. calls_in (i ∷ earlier) - 1 < n) (sym (ap calls_in e) ∙ calls) within in
-    each.1.freed other ∙ sym (taken_at load script items later (i ∷ earlier) (calls_in (i ∷ earlier) - 1) order e next each h few)
+    let within : calls_in (i ∷ earlier) - 1 < calls_in (later ++ (i ∷ earlier)) = below_more
+    (λ (j : Item). is_call j.origin) (calls_in (i ∷ earlier) - 1) later (i ∷ earlier)
+    (omega arith) in
+    let few : calls_in (i ∷ earlier) - 1 < length script = subst
+    (λ n. calls_in (i ∷ earlier) - 1 < n) (sym (ap calls_in e) ∙ calls) within in
+    each.1.freed other ∙ sym (taken_at load script items later (i ∷ earlier)
+    (calls_in (i ∷ earlier) - 1) order e next each h few)
 
 all_taken : (load : Load) (script : List Step) (items later xs : List Item)
-    → reverse (order_of load) ≡ Reads_all ∷ turns_back (length script) → calls_in (latest_first items) ≡ length script
-    → latest_first items ≡ later ++ xs → EachItem (IsNextItem load) xs → EachItem (IsFresh load) xs → EachItem (IsTakenItem load (order_of load) items) xs
+    → reverse (order_of load) ≡ Reads_all ∷ turns_back (length script) → calls_in
+    (latest_first items) ≡ length script
+    → latest_first items ≡ later ++ xs → EachItem (IsNextItem load) xs → EachItem (IsFresh load) xs
+    → EachItem (IsTakenItem load (order_of load) items) xs
 all_taken load script items later [] order calls e next each = tt
 all_taken load script items later (i ∷ earlier) order calls e next each = (
-  all_taken load script items (later ++ i ∷ []) earlier order calls (e ∙ sym (append_assoc later (i ∷ []) earlier)) next.0 each.0,
+  all_taken load script items (later ++ i ∷ []) earlier order calls
+      (e ∙ sym (append_assoc later (i ∷ []) earlier)) next.0 each.0,
   record {
-    taken = any_taken load (order_of load) items earlier i i.origin (item_taken load script items later earlier i order calls e next each);
+    taken = any_taken load (order_of load) items earlier i i.origin
+        (item_taken load script items later earlier i order calls e next each);
     overflow_freed = each.1.behind;
   },
 )
 
--- behind the script's last section the journal is in order
-pub in_order-one : (load : Load) (script : List Step) (items : List Item) → load.scripts ≡ script ∷ [] → load.schedule ≡ [] → load.commands ≡ []
-    → IsLegal load items → IsUnderWay load items (length script) → IsInOrder load (order_of load) items
+-- after the script's last section the journal is in order
+pub in_order-one : (load : Load) (script : List Step) (items : List Item)
+    → load.scripts ≡ script ∷ [] → load.schedule ≡ [] → load.commands ≡ []
+    → IsLegal load items → IsUnderWay load items (length script) → IsInOrder load (order_of load)
+    items
 in_order-one load script items scripts schedule commands legal u =
-    let order : reverse (order_of load) ≡ Reads_all ∷ turns_back (length script) = back_order load script scripts schedule commands in
+    let order : reverse (order_of load) ≡ Reads_all ∷ turns_back (length script) = back_order load
+    script scripts schedule commands in
     record {
-      steps = u.turns ∙ sym (ap (ordered_turns load items) order ∙ ordered_back load items (length script));
-      freed = all_taken load script items [] (latest_first items) order u.calls refl legal.each u.fresh;
+      steps = u.turns ∙ sym (ap (ordered_turns load items) order ∙ ordered_back load items
+          (length script));
+      freed = all_taken load script items [] (latest_first items) order u.calls refl legal.each
+          u.fresh;
     }
 
-pub simulated-one : (load : Load) (script : List Step) (items : List Item) → load.scripts ≡ script ∷ [] → load.schedule ≡ [] → load.commands ≡ []
-    → IsLegal load items → IsWhole load items → IsUnderWay load items (length script) → IsSimulated load items
-simulated-one load script items scripts schedule commands legal whole u = record { legal = legal; whole = whole; ordered = in_order-one load script items scripts schedule commands legal u }
+pub simulated-one : (load : Load) (script : List Step) (items : List Item)
+    → load.scripts ≡ script ∷ [] → load.schedule ≡ [] → load.commands ≡ []
+    → IsLegal load items → IsWhole load items → IsUnderWay load items (length script) → IsSimulated
+    load items
+simulated-one load script items scripts schedule commands legal whole u =
+    record {
+      legal = legal;
+      whole = whole;
+      ordered = in_order-one load script items scripts schedule
+          commands legal u;
+    }
 
-no_command_in : (items : List Item) → count_by (λ i. is_command i.origin) items ≡ 0 → commands_in items ≡ []
+no_command_in : (items : List Item) → count_by (λ i. is_command i.origin) items ≡ 0
+    → commands_in items ≡ []
 no_command_in [] h = refl
 no_command_in (i ∷ items) h =
-    let e : count_by (λ (j : Item). is_command j.origin) (i ∷ items) ≡ cond (is_command i.origin) 1 0 + count_by (λ (j : Item). is_command j.origin) items = count-cons (λ (j : Item). is_command j.origin) i items in
-    ap (λ cs. command_in i.origin ++ cs) (no_command_in items (fewer (is_command i.origin) (count_by (λ (j : Item). is_command j.origin) items) (sym e ∙ h)))
-    ∙ (append-nil (command_in i.origin) ∙ none i.origin (head (is_command i.origin) (count_by (λ (j : Item). is_command j.origin) items) (sym e ∙ h))) where
+    let e : count_by (λ (j : Item). is_command j.origin) (i ∷ items) ≡ cond (is_command i.origin) 1
+    0 + count_by (λ (j : Item). is_command j.origin) items = count-cons
+    (λ (j : Item). is_command j.origin) i items in
+    ap (λ cs. command_in i.origin ++ cs)
+    (no_command_in items (fewer (is_command i.origin)
+    (count_by (λ (j : Item). is_command j.origin) items) (sym e ∙ h)))
+    ∙ (append-nil (command_in i.origin) ∙ none i.origin
+    (head (is_command i.origin) (count_by (λ (j : Item). is_command j.origin) items)
+    (sym e ∙ h))) where
       fewer : (b : Bool) (n : ℕ) → cond b 1 0 + n ≡ 0 → n ≡ 0
       fewer true n h = absurd (omega arith)
       fewer false n h = omega arith
@@ -604,7 +406,8 @@ no_command_in (i ∷ items) h =
       none (Command byte param) h = cc
 
 -- and it is whole
-pub whole-one : (load : Load) (script : List Step) (items : List Item) → load.scripts ≡ script ∷ [] → load.commands ≡ []
+pub whole-one : (load : Load) (script : List Step) (items : List Item) → load.scripts ≡ script ∷ []
+    → load.commands ≡ []
     → IsLegal load items → IsUnderWay load items (length script) → IsWhole load items
 whole-one load script items scripts commands legal u =
     let few : count_by (λ i. is_command i.origin) items ≤ length load.commands = legal.commands in
@@ -614,26 +417,36 @@ whole-one load script items scripts commands legal u =
       scripts = whole;
       commands = none ∙ sym (ap (λ cs. take (length cs) load.commands) none);
     } where
-      whole : (writer : ℕ) → writer < length load.scripts → count_by (λ i. is_call_of writer i.origin) items ≡ length (script_of load writer)
-      whole zero h = u.own ∙ sym (ap (λ (ss : List (List Step)). length (slice_index_or ss 0 [])) scripts)
-      whole (suc writer) h = let one : length load.scripts ≡ 1 = ap length scripts in absurd (omega arith)
+      whole : (writer : ℕ) → writer < length load.scripts → count_by
+          (λ i. is_call_of writer i.origin) items ≡ length (script_of load writer)
+      whole zero h = u.own ∙ sym
+          (ap (λ (ss : List (List Step)). length (slice_index_or ss 0 [])) scripts)
+      whole (suc writer) h = let one : length load.scripts ≡ 1 = ap length scripts in absurd
+          (omega arith)
 
 -- AS A LOOP HAS IT
 
 -- a section more, of what the recorder keeps
-pub under_way-kept : (load : Load) (before after : List Item) (sent sent_after : List ℕ) (freed freed_after done : ℕ) (on on_after : Bool) (pending pending_after last last_after : ℕ)
+pub under_way-kept : (load : Load) (before after : List Item) (sent sent_after : List ℕ)
+    (freed freed_after done : ℕ) (on on_after : Bool) (pending pending_after last last_after : ℕ)
     → IsUnderWay load before done
-    → Keeps load before [] sent freed on pending last → Keeps load after [] sent_after freed_after on_after pending_after last_after
+    → Keeps load before [] sent freed on pending last → Keeps load after [] sent_after freed_after
+    on_after pending_after last_after
     → (s : IsSection before after 0 None) → freed ≡ length sent → All (λ i. i.freed ≡ freed) s.more
     → IsUnderWay load after (done + 1)
 under_way-kept load before after sent sent_after freed freed_after done on on_after pending pending_after last last_after u old new s read all =
-    under_way-more load before after done freed u (IsLegal-open load before old.opened) (IsLegal-open load after new.opened) s (read ∙ ap length old.sent_is) all
+    under_way-more load before after done freed u (IsLegal-open load before old.opened)
+    (IsLegal-open load after new.opened) s (read ∙ ap length old.sent_is) all
 
--- behind as many sections as the only script has steps, the journal is that of the simulation
-pub simulated-end : (load : Load) (items : List Item) (done : ℕ) → length load.scripts ≡ 1 → length load.schedule ≡ 0 → length load.commands ≡ 0
-    → IsLegal load items → IsUnderWay load items done → done ≡ length (script_of load 0) → IsSimulated load items
+-- after as many sections as the only script has steps, the journal is that of the simulation
+pub simulated-end : (load : Load) (items : List Item) (done : ℕ) → length load.scripts ≡ 1
+    → length load.schedule ≡ 0 → length load.commands ≡ 0
+    → IsLegal load items → IsUnderWay load items done → done ≡ length (script_of load 0) →
+    IsSimulated load items
 simulated-end load items done scripts schedule commands legal u end =
     let one : load.scripts ≡ script_of load 0 ∷ [] = one_script load.scripts scripts in
     let none : load.commands ≡ [] = nil_from_length load.commands commands in
-    let full : IsUnderWay load items (length (script_of load 0)) = subst (IsUnderWay load items) end u in
-    simulated-one load (script_of load 0) items one (nil_from_length load.schedule schedule) none legal (whole-one load (script_of load 0) items one none legal full) full
+    let full : IsUnderWay load items (length (script_of load 0)) = subst (IsUnderWay load items) end
+    u in
+    simulated-one load (script_of load 0) items one (nil_from_length load.schedule schedule) none
+    legal (whole-one load (script_of load 0) items one none legal full) full

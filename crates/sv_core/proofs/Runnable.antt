@@ -1,9 +1,9 @@
 -- What is known of a workload that is built.
-use Rattle.std.proofs.Common.{◌≡◌, ℕ, ◌≤◌, ◌^◌, true, not, List, length, Option, Some, None, sym, subst, ◌∙◌, rules}
-use Rattle.std.specs.Prelude.{nat_le, ◌==◌, IfSome}
+use Rattle.std.proofs.Common.{◌≡◌, ℕ, ◌≤◌, true, not, length, rules}
+use Rattle.std.specs.Prelude.{nat_le, ◌==◌}
 use Rattle.std.proofs.lemmas.Bool.{and_parts}
 use Rattle.sv_workload.specs.Load.{Load}
-use Rattle.sv_workload.specs.Grammar.{IsWorkload, SaysNothingOfLater}
+use Rattle.sv_workload.specs.Grammar.{SaysNothingOfLater}
 use Rattle.sv_recorder.specs.Plain.{IsPlain}
 use Rattle.sv_recorder.proofs.Shared.{plain_of}
 use Rattle.sv_core.specs.Built.{is_built}

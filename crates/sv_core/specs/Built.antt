@@ -6,4 +6,5 @@ use Rattle.sv_workload.specs.Load.{Load}
 -- at least 1024 bytes
 abbrev pub is_built : Load → Bool
 is_built load =
-    (length load.scripts == 1) && (length load.tasks == 0) && not load.scheduled && (length load.schedule == 0) && nat_le 1024 load.ring
+    (length load.scripts == 1) && (length load.tasks == 0) && not load.scheduled &&
+    (length load.schedule == 0) && nat_le 1024 load.ring

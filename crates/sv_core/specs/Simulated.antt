@@ -1,24 +1,29 @@
 -- The journal of a simulation.
-use Rattle.std.specs.Prelude.{◌≡◌, ℕ, ◌+◌, ◌-◌, min, Bool, List, [], ◌∷◌, ◌++◌, reverse, count_by, nat_lt, if◌then◌else◌}
+use Rattle.std.specs.Prelude.{◌≡◌, ℕ, ◌+◌, ◌-◌, min, Bool, List, [], ◌∷◌, ◌++◌, reverse, count_by}
+use Rattle.std.specs.Prelude.{nat_lt, if◌then◌else◌}
 use Rattle.sv_workload.specs.Load.{Load}
 use Rattle.sv_recorder.specs.declared.journal.Origin.{Origin}
 use Rattle.sv_recorder.specs.declared.journal.Origin.TheVariants.{Overflow}
 use Rattle.sv_recorder.specs.declared.journal.Item.{Item}
-use Rattle.sv_recorder.specs.Items.{latest_first, is_call, is_command, is_overflow, before_overflow, stored_before}
+use Rattle.sv_recorder.specs.Items.{latest_first, is_call, is_command, is_overflow, before_overflow}
+use Rattle.sv_recorder.specs.Items.{stored_before}
 use Rattle.sv_recorder.specs.Legal.{IsLegal, IsWhole, EachItem}
 use Rattle.sv_core.specs.Turns.{StepTurn}
-use Rattle.sv_core.specs.Order.{Turn, Takes_step, Reads, Reads_all, Sends, is_step, is_send, order_of}
+use Rattle.sv_core.specs.Order.{Turn, Takes_step, Reads, Reads_all, Sends, is_step, is_send}
+use Rattle.sv_core.specs.Order.{order_of}
 use Rattle.sv_core.specs.Turns.{step_turns}
 
 -- of a list with the latest first, what came before the one with this number that passes, counted from 0
 abbrev pub before_number : {X : Type 0} → (X → Bool) → ℕ → List X → List X
 before_number test number [] = []
 before_number test number (x ∷ earlier) =
-    if nat_lt number (count_by test (x ∷ earlier)) then before_number test number earlier else x ∷ earlier
+    if nat_lt number (count_by test (x ∷ earlier)) then before_number test number earlier else x ∷
+    earlier
 
 -- the items before a call's section; an overflow directly before the call is part of its section
 abbrev pub before_section : List Item → ℕ → List Item
-before_section items number = before_overflow (before_number (λ i. is_call i.origin) number (latest_first items))
+before_section items number =
+    before_overflow (before_number (λ i. is_call i.origin) number (latest_first items))
 
 -- the turns before a step, the latest first
 abbrev pub before_step : List Turn → ℕ → List Turn
@@ -31,7 +36,8 @@ stored_by load items sections = stored_before load (before_section items section
 -- the bytes that the host took in these turns, the latest first
 abbrev pub taken_in : Load → List Item → List Turn → ℕ
 taken_in load items [] = 0
-taken_in load items (Reads most ∷ earlier) = min (taken_in load items earlier + most) (stored_by load items (count_by is_step earlier))
+taken_in load items (Reads most ∷ earlier) =
+    min (taken_in load items earlier + most) (stored_by load items (count_by is_step earlier))
 taken_in load items (Reads_all ∷ earlier) = stored_by load items (count_by is_step earlier)
 taken_in load items (Takes_step writer ∷ earlier) = taken_in load items earlier
 taken_in load items (Sends ∷ earlier) = taken_in load items earlier
@@ -43,7 +49,8 @@ ordered_turns load items (Takes_step writer ∷ earlier) =
     ordered_turns load items earlier
     ++ record {
       writer = writer;
-      command = nat_lt (count_by (λ i. is_command i.origin) (before_section items (count_by is_step earlier))) (count_by is_send earlier);
+      command = nat_lt (count_by (λ i. is_command i.origin)
+          (before_section items (count_by is_step earlier))) (count_by is_send earlier);
     } ∷ []
 ordered_turns load items (Reads most ∷ earlier) = ordered_turns load items earlier
 ordered_turns load items (Reads_all ∷ earlier) = ordered_turns load items earlier
@@ -53,7 +60,8 @@ ordered_turns load items (Sends ∷ earlier) = ordered_turns load items earlier
 abbrev pub IsTaken : Load → List Turn → List Item → List Item → Item → Origin → Type 0
 IsTaken load turns items earlier item (Overflow count) = Unit {0}
 IsTaken load turns items earlier item other =
-    item.freed ≡ taken_in load items (before_step turns (count_by (λ i. is_call i.origin) (item ∷ earlier) - 1))
+    item.freed ≡ taken_in load items
+    (before_step turns (count_by (λ i. is_call i.origin) (item ∷ earlier) - 1))
 
 -- the freed of the overflow directly before, if there is one, and else this one
 abbrev pub overflow_freed : List Item → ℕ → ℕ

@@ -1,5 +1,6 @@
 -- The turns of a journal, and journals that have given turns.
-use Rattle.std.specs.Prelude.{◌≡◌, ℕ, ◌-◌, Bool, not, List, [], ◌∷◌, ◌++◌, take_while, IsTrue, if◌then◌else◌}
+use Rattle.std.specs.Prelude.{◌≡◌, ℕ, ◌-◌, Bool, not, List, [], ◌∷◌, ◌++◌, take_while, IsTrue}
+use Rattle.std.specs.Prelude.{if◌then◌else◌}
 use Rattle.std.specs.List.{list_any}
 use Rattle.sv_workload.specs.Load.{Load}
 use Rattle.sv_recorder.specs.declared.journal.Origin.{Origin}
@@ -20,7 +21,8 @@ pub record Turns : Type 0 where
 
 -- a command stands before the next call
 abbrev pub has_command : List Item → Bool
-has_command later = list_any (λ i. is_command i.origin) (take_while (λ i. not (is_call i.origin)) later)
+has_command later =
+    list_any (λ i. is_command i.origin) (take_while (λ i. not (is_call i.origin)) later)
 
 -- the turn of a call; `later` is the items after it
 abbrev pub turn_at : Origin → List Item → List StepTurn
@@ -40,7 +42,9 @@ written_freed (i ∷ earlier) = if is_written earlier i then i.freed else writte
 -- for each written item, what was freed since the one before
 abbrev pub frees_before : List Item → List ℕ
 frees_before [] = []
-frees_before (i ∷ earlier) = frees_before earlier ++ (if is_written earlier i then (i.freed - written_freed earlier) ∷ [] else [])
+frees_before (i ∷ earlier) =
+    frees_before earlier ++ (if is_written earlier i then (i.freed - written_freed earlier) ∷ []
+    else [])
 
 -- the turns of a journal
 abbrev pub turns_of : List Item → Turns
@@ -60,7 +64,8 @@ pub record IsReplayed (load : Load) (turns : Turns) (items : List Item) : Type 0
 -- the items, with no freed where nothing was written
 abbrev pub without_idle : List Item → List Item
 without_idle [] = []
-without_idle (i ∷ earlier) = without_idle earlier ++ (if is_written earlier i then i else record i { freed = 0 }) ∷ []
+without_idle (i ∷ earlier) =
+    without_idle earlier ++ (if is_written earlier i then i else record i { freed = 0 }) ∷ []
 
 -- two journals are the same, but for the freed of items that are not written
 abbrev pub IsSameButIdle : List Item → List Item → Type 0

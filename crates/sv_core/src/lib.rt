@@ -13,4 +13,3 @@ mod start;
 pub use laws::simulated_once;
 pub use simulation::{is_built, simulate};
 pub use start::has_start;
-

@@ -1,5 +1,6 @@
 -- A simulated journal worked out by hand, and its turns.
-use Rattle.std.proofs.Common.{◌≡◌, ℕ, ◌<◌, zero, suc, false, List, [], ◌∷◌, refl, arith, rules, length}
+use Rattle.std.proofs.Common.{◌≡◌, ℕ, ◌<◌, zero, suc, false, List, [], ◌∷◌, refl, arith, rules}
+use Rattle.std.proofs.Common.{length}
 use Rattle.std.specs.Prelude.{count_by}
 use Rattle.sv_workload.specs.Load.{Load, script_of}
 use Rattle.sv_recorder.specs.declared.journal.Kind.TheVariants as kinds
@@ -14,7 +15,23 @@ use Rattle.sv_core.specs.Simulated.{IsSimulated}
 use Rattle.sv_core.proofs.examples.Short.{at, start, turn}
 
 abbrev pub load : Load
-load = record { ring = 1024; clock = 1000000; cpu = 1000000; base = 536870912; shift = 2; timed = false; lines = []; tasks = []; modules = []; commands = []; scripts = (start 0 ∷ []) ∷ []; scheduled = false; schedule = [] }
+load =
+    record {
+      ring = 1024;
+      clock = 1000000;
+      cpu = 1000000;
+      base = 536870912;
+      shift = 2;
+      timed =
+          false;
+      lines = [];
+      tasks = [];
+      modules = [];
+      commands = [];
+      scripts = (start 0 ∷ []) ∷ [];
+      scheduled = false;
+      schedule = [];
+    }
 
 abbrev pub items : List Item
 items =
@@ -31,7 +48,8 @@ turns = record { steps = turn 0 false ∷ []; frees = 0 ∷ 0 ∷ 0 ∷ 0 ∷ 0 
 turned : turns_of items ≡ turns
 turned = refl
 
-scripts : (writer : ℕ) → writer < length load.scripts → count_by (λ i. is_call_of writer i.origin) items ≡ length (script_of load writer)
+scripts : (writer : ℕ) → writer < length load.scripts
+    → count_by (λ i. is_call_of writer i.origin) items ≡ length (script_of load writer)
 scripts zero h = refl
 scripts (suc writer) h = absurd (omega (arith, h))
 
@@ -39,4 +57,10 @@ whole : IsWhole load items
 whole = record { scripts = scripts; commands = refl }
 
 pub simulated : IsSimulated load items
-simulated = record { legal = search rules; whole = whole; ordered = record { steps = refl; freed = search rules } }
+simulated =
+    record {
+      legal = search rules;
+      whole = whole;
+      ordered = record
+          { steps = refl; freed = search rules };
+    }

@@ -9,13 +9,30 @@ use Rattle.sv_recorder.specs.declared.journal.Item.{Item}
 use Rattle.sv_recorder.specs.Legal.{IsLegal}
 use Rattle.sv_core.specs.Simulated.{IsSimulated}
 use Rattle.sv_core.proofs.examples.Short.{at, start, mark, Same}
-use Rattle.sv_core.proofs.OneWriter.{IsUnderWay, simulated-one, whole-one}
+use Rattle.sv_core.proofs.LatestSection.{IsUnderWay}
+use Rattle.sv_core.proofs.OneWriter.{simulated-one, whole-one}
 
 abbrev pub script : List Step
 script = start 0 ∷ mark 1 5 ∷ []
 
 abbrev pub load : Load
-load = record { ring = 20; clock = 1000000; cpu = 1000000; base = 536870912; shift = 2; timed = false; lines = []; tasks = []; modules = []; commands = []; scripts = script ∷ []; scheduled = false; schedule = [] }
+load =
+    record {
+      ring = 20;
+      clock = 1000000;
+      cpu = 1000000;
+      base = 536870912;
+      shift = 2;
+      timed = false;
+      lines = [];
+      tasks = [];
+      modules = [];
+      commands = [];
+      scripts = script ∷ [];
+      scheduled =
+          false;
+      schedule = [];
+    }
 
 abbrev pub items : List Item
 items =
@@ -36,7 +53,9 @@ two : IsUnderWay load items 2
 two = record { turns = refl; calls = refl; own = refl; fresh = search rules }
 
 simulated : IsSimulated load items
-simulated = simulated-one load script items refl refl refl legal (whole-one load script items refl refl legal two) two
+simulated =
+    simulated-one load script items refl refl refl legal
+    (whole-one load script items refl refl legal two) two
 
 -- as if nothing had been read
 abbrev unread : List Item

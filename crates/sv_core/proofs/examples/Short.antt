@@ -9,7 +9,8 @@ use Rattle.sv_recorder.specs.declared.journal.Item.{Item}
 use Rattle.sv_core.specs.Turns.{StepTurn}
 
 abbrev pub at : ℕ → ℕ → Origin → Outcome → Item
-at moment freed origin outcome = record { origin = origin; moment = moment; freed = freed; outcome = outcome }
+at moment freed origin outcome =
+    record { origin = origin; moment = moment; freed = freed; outcome = outcome }
 
 abbrev pub start : ℕ → Step
 start advance = record { advance = advance; act = acts.Start }

@@ -1,5 +1,6 @@
 -- A simulated journal worked out by hand, and its turns.
-use Rattle.std.proofs.Common.{◌≡◌, ℕ, ◌<◌, zero, suc, false, List, [], ◌∷◌, refl, arith, rules, length}
+use Rattle.std.proofs.Common.{◌≡◌, ℕ, ◌<◌, zero, suc, false, List, [], ◌∷◌, refl, arith, rules}
+use Rattle.std.proofs.Common.{length}
 use Rattle.std.specs.Prelude.{count_by}
 use Rattle.sv_workload.specs.declared.load.Step.{Step}
 use Rattle.sv_workload.specs.Load.{Load, script_of}
@@ -18,7 +19,23 @@ abbrev pub script : List Step
 script = mark 5 9 ∷ start 0 ∷ mark 2 9 ∷ stop 3 ∷ mark 1 9 ∷ []
 
 abbrev pub load : Load
-load = record { ring = 1024; clock = 1000000; cpu = 1000000; base = 536870912; shift = 2; timed = false; lines = []; tasks = []; modules = []; commands = []; scripts = script ∷ []; scheduled = false; schedule = [] }
+load =
+    record {
+      ring = 1024;
+      clock = 1000000;
+      cpu = 1000000;
+      base = 536870912;
+      shift = 2;
+      timed =
+          false;
+      lines = [];
+      tasks = [];
+      modules = [];
+      commands = [];
+      scripts = script ∷ [];
+      scheduled = false;
+      schedule = [];
+    }
 
 abbrev pub items : List Item
 items =
@@ -35,12 +52,17 @@ items =
     at 11 39 (Call 0 4) Ignored ∷ []
 
 abbrev pub turns : Turns
-turns = record { steps = turn 0 false ∷ turn 0 false ∷ turn 0 false ∷ turn 0 false ∷ turn 0 false ∷ []; frees = 0 ∷ 0 ∷ 0 ∷ 0 ∷ 0 ∷ 34 ∷ 3 ∷ [] }
+turns =
+    record {
+      steps = turn 0 false ∷ turn 0 false ∷ turn 0 false ∷ turn 0 false ∷ turn 0 false ∷ [];
+      frees = 0 ∷ 0 ∷ 0 ∷ 0 ∷ 0 ∷ 34 ∷ 3 ∷ [];
+    }
 
 turned : turns_of items ≡ turns
 turned = refl
 
-scripts : (writer : ℕ) → writer < length load.scripts → count_by (λ i. is_call_of writer i.origin) items ≡ length (script_of load writer)
+scripts : (writer : ℕ) → writer < length load.scripts
+    → count_by (λ i. is_call_of writer i.origin) items ≡ length (script_of load writer)
 scripts zero h = refl
 scripts (suc writer) h = absurd (omega (arith, h))
 
@@ -48,4 +70,10 @@ whole : IsWhole load items
 whole = record { scripts = scripts; commands = refl }
 
 pub simulated : IsSimulated load items
-simulated = record { legal = search rules; whole = whole; ordered = record { steps = refl; freed = search rules } }
+simulated =
+    record {
+      legal = search rules;
+      whole = whole;
+      ordered = record
+          { steps = refl; freed = search rules };
+    }

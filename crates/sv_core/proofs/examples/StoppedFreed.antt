@@ -10,7 +10,8 @@ use Rattle.sv_recorder.specs.Section.{IsSection}
 use Rattle.sv_core.specs.Simulated.{IsSimulated}
 use Rattle.sv_core.proofs.examples.Short.{at, Same}
 use Rattle.sv_core.proofs.examples.Stopped as stopped
-use Rattle.sv_core.proofs.OneWriter.{IsUnderWay, under_way-more, simulated-one, whole-one}
+use Rattle.sv_core.proofs.LatestSection.{IsUnderWay}
+use Rattle.sv_core.proofs.OneWriter.{under_way-more, simulated-one, whole-one}
 
 -- as if the host had not read the stop's packet to its end
 abbrev behind : List Item
@@ -54,7 +55,7 @@ ahead_legal = search rules
 not_ahead : IsSimulated stopped.load ahead → ⊥
 not_ahead s = let h : Same 10 0 = s.ordered.freed.0.0.0.0.1.taken in omega arith
 
--- behind its first two sections, and behind one more
+-- after its first two sections, and after one more
 abbrev begun : List Item
 begun =
     at 5 0 (Call 0 0) Ignored ∷
@@ -89,10 +90,13 @@ abbrev section : IsSection begun marked 0 None
 section = record { more = at 7 34 (Call 0 2) Stored ∷ []; longer = refl; heads = refl }
 
 all_read : All (λ i. i.freed ≡ 34) section.more
-all_read = All-cons (λ (i : Item). i.freed ≡ 34) (at 7 34 (Call 0 2) Stored) [] refl (All-nil (λ (i : Item). i.freed ≡ 34))
+all_read =
+    All-cons (λ (i : Item). i.freed ≡ 34) (at 7 34 (Call 0 2) Stored) [] refl
+    (All-nil (λ (i : Item). i.freed ≡ 34))
 
 three : IsUnderWay stopped.load marked 3
-three = under_way-more stopped.load begun marked 2 34 two begun_legal marked_legal section refl all_read
+three =
+    under_way-more stopped.load begun marked 2 34 two begun_legal marked_legal section refl all_read
 
 -- to its end
 five : IsUnderWay stopped.load stopped.items 5
@@ -102,4 +106,6 @@ legal : IsLegal stopped.load stopped.items
 legal = search rules
 
 simulated : IsSimulated stopped.load stopped.items
-simulated = simulated-one stopped.load stopped.script stopped.items refl refl refl legal (whole-one stopped.load stopped.script stopped.items refl refl legal five) five
+simulated =
+    simulated-one stopped.load stopped.script stopped.items refl refl refl legal
+    (whole-one stopped.load stopped.script stopped.items refl refl legal five) five

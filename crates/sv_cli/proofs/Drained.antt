@@ -1,5 +1,7 @@
 -- The events that a decoder gives, one after another, and what is gathered of them.
-use Rattle.std.proofs.Common.{◌≡◌, ℕ, ◌+◌, ◌^◌, ◌<◌, ◌≤◌, true, false, List, [], ◌∷◌, ◌++◌, length, take, Option, Result, Ok, Err, refl, sym, ap, ◌∙◌, subst, arith, append_assoc, append-nil, length-append}
+use Rattle.std.proofs.Common.{◌≡◌, ℕ, ◌+◌, ◌^◌, ◌<◌, ◌≤◌, true, false, List, [], ◌∷◌, ◌++◌, length}
+use Rattle.std.proofs.Common.{take, Option, Result, Ok, Err, refl, sym, ap, ◌∙◌, subst, arith}
+use Rattle.std.proofs.Common.{append_assoc, append-nil, length-append}
 use Rattle.std.specs.Prelude.{is_ok, is_err, OnOk}
 use Rattle.std.specs.Io.KnownBytes.{Consumes, IsAtEnd}
 use Rattle.std.proofs.lemmas.List.{length-take}
@@ -17,7 +19,8 @@ use Rattle.sv_cli.specs.Text.{Text, lines_after}
 use Rattle.sv_cli.proofs.Lines.{lines_after-push}
 
 module _ {V : Type 0} (text : Text) (shown : V → List TimedEvent → Type 0) where
-  pub given-none : (decoder : Decoding) (view : V) (lines : List ℕ) → HasGiven text shown decoder decoder view view lines lines []
+  pub given-none : (decoder : Decoding) (view : V) (lines : List ℕ) → HasGiven text shown decoder
+      decoder view view lines lines []
   given-none decoder view lines = record {
     stands = λ input given s. subst (StandsFor decoder input) (sym (append-nil given)) s;
     viewed = λ given s. subst (shown view) (sym (append-nil given)) s;
@@ -26,29 +29,38 @@ module _ {V : Type 0} (text : Text) (shown : V → List TimedEvent → Type 0) w
     pushed_same = refl;
   }
 
-  pub given-more : (old mid new : Decoding) (before between now : V) (lines_before lines_between lines : List ℕ) (events : List TimedEvent) (event : TimedEvent)
+  pub given-more : (old mid new : Decoding) (before between now : V)
+      (lines_before lines_between lines : List ℕ) (events : List TimedEvent) (event : TimedEvent)
       → HasGiven text shown old mid before between lines_before lines_between events
-      → ((input : List ℕ) (given : List TimedEvent) → StandsFor mid input given → StandsFor new input (given ++ event ∷ []))
+      → ((input : List ℕ) (given : List TimedEvent) → StandsFor mid input given → StandsFor new
+      input (given ++ event ∷ []))
       → ((earlier : List TimedEvent) → shown between earlier → shown now (earlier ++ event ∷ []))
-      → ((earlier : List TimedEvent) → shown between earlier → lines ≡ lines_between ++ text.line earlier event)
+      → ((earlier : List TimedEvent) → shown between earlier → lines ≡ lines_between ++ text.line
+      earlier event)
       → length new.held < length mid.held → pushed new ≡ pushed mid
       → HasGiven text shown old new before now lines_before lines (events ++ event ∷ [])
-  given-more old mid new before between now lines_before lines_between lines events event g stands viewed line fewer same = record {
-    stands = λ input given s. subst (StandsFor new input) (append_assoc given events (event ∷ [])) (stands input (given ++ events) (g.stands input given s));
-    viewed = λ given s. subst (shown now) (append_assoc given events (event ∷ [])) (viewed (given ++ events) (g.viewed given s));
-    gathered = λ given s.
-        line (given ++ events) (g.viewed given s)
-        ∙ ap (λ (ls : List ℕ). ls ++ text.line (given ++ events) event) (g.gathered given s)
-        ∙ append_assoc lines_before (lines_after text given events) (text.line (given ++ events) event)
-        ∙ ap (λ (ls : List ℕ). lines_before ++ ls) (sym (lines_after-push text given events event));
-    held = omega (arith, g.held, fewer, length-append events (event ∷ []));
-    pushed_same = same ∙ g.pushed_same;
-  }
+  given-more old mid new before between now lines_before lines_between lines events event g stands
+      viewed line fewer same = record {
+        stands = λ input given s. subst (StandsFor new input) (append_assoc given events (event ∷ []))
+            (stands input (given ++ events) (g.stands input given s));
+        viewed = λ given s. subst (shown now) (append_assoc given events (event ∷ []))
+            (viewed (given ++ events) (g.viewed given s));
+        gathered = λ given s.
+            line (given ++ events) (g.viewed given s)
+            ∙ ap (λ (ls : List ℕ). ls ++ text.line (given ++ events) event) (g.gathered given s)
+            ∙ append_assoc lines_before (lines_after text given events)
+            (text.line (given ++ events) event)
+            ∙ ap (λ (ls : List ℕ). lines_before ++ ls) (sym (lines_after-push text given events event));
+        held = omega (arith, g.held, fewer, length-append events (event ∷ []));
+        pushed_same = same ∙ g.pushed_same;
+      }
 
   -- no event more
-  pub given-same : (old mid new : Decoding) (before now : V) (lines_before lines : List ℕ) (events : List TimedEvent)
+  pub given-same : (old mid new : Decoding) (before now : V) (lines_before lines : List ℕ)
+      (events : List TimedEvent)
       → HasGiven text shown old mid before now lines_before lines events
-      → ((input : List ℕ) (given : List TimedEvent) → StandsFor mid input given → StandsFor new input given)
+      → ((input : List ℕ) (given : List TimedEvent) → StandsFor mid input given → StandsFor new
+      input given)
       → length new.held ≤ length mid.held → pushed new ≡ pushed mid
       → HasGiven text shown old new before now lines_before lines events
   given-same old mid new before now lines_before lines events g stands fewer same = record {
@@ -60,35 +72,52 @@ module _ {V : Type 0} (text : Text) (shown : V → List TimedEvent → Type 0) w
   }
 
   -- the next event finds fewer than 2^33 before it
-  pub room_for_next : (old mid new : Decoding) (before now : V) (lines_before lines : List ℕ) (events : List TimedEvent)
+  pub room_for_next : (old mid new : Decoding) (before now : V) (lines_before lines : List ℕ)
+      (events : List TimedEvent)
       → HasGiven text shown old mid before now lines_before lines events
-      → (given : List TimedEvent) → shown before given → length given + length old.held ≤ 2 ^ 33 → length new.held < length mid.held
+      → (given : List TimedEvent) → shown before given → length given + length old.held ≤ 2 ^ 33 →
+      length new.held < length mid.held
       → (earlier : List TimedEvent) × shown now earlier × (length earlier < 2 ^ 33)
-  room_for_next old mid new before now lines_before lines events g given s few fewer =
-      (given ++ events, g.viewed given s, omega (arith, g.held, fewer, few, length-append given events))
+  room_for_next old mid new before now lines_before lines events g given s few fewer = (
+    given ++ events,
+    g.viewed given s,
+    omega
+        (arith, g.held, fewer, few, length-append given events),
+  )
 
 -- no event is left
 pub drained-none : (old mid new : Decoding) (events : List TimedEvent)
-    → ((input : List ℕ) (given : List TimedEvent) → StandsFor old input given → StandsFor mid input (given ++ events))
-    → ((input : List ℕ) (given : List TimedEvent) → StandsFor mid input given → (packets : List Packet) (end : End) → Reads input packets end → (given ≡ timed packets) × (IsDamaged end → ⊥))
+    → ((input : List ℕ) (given : List TimedEvent) → StandsFor old input given → StandsFor mid input
+    (given ++ events))
+    → ((input : List ℕ) (given : List TimedEvent) → StandsFor mid input given →
+    (packets : List Packet) (end : End) → Reads input packets end → (given ≡ timed packets) ×
+    (IsDamaged end → ⊥))
     → IsSettled new → IsDrained old new events false
 drained-none old mid new events stands next settled = record {
   settled = settled;
-  all = λ input given s packets end reads. (next input (given ++ events) (stands input given s) packets end reads).0;
-  no = λ _ input given s packets end reads. (next input (given ++ events) (stands input given s) packets end reads).1;
+  all = λ input given s packets end reads.
+      (next input (given ++ events) (stands input given s) packets end reads).0;
+  no = λ _ input given s packets end reads.
+      (next input (given ++ events) (stands input given s) packets end reads).1;
   yes = λ none. absurd cc;
 }
 
 -- damage that is found after the events that were given
-pub drained-damaged : (old mid new : Decoding) (events : List TimedEvent) (place : ℕ) (reason : Reason)
-    → ((input : List ℕ) (given : List TimedEvent) → StandsFor old input given → StandsFor mid input (given ++ events))
-    → ((input : List ℕ) (given : List TimedEvent) → StandsFor mid input given → (packets : List Packet) (end : End) → Reads input packets end → (given ≡ timed packets) × (end ≡ DamagedEnd place reason))
+pub drained-damaged : (old mid new : Decoding) (events : List TimedEvent) (place : ℕ)
+    (reason : Reason)
+    → ((input : List ℕ) (given : List TimedEvent) → StandsFor old input given → StandsFor mid input
+    (given ++ events))
+    → ((input : List ℕ) (given : List TimedEvent) → StandsFor mid input given →
+    (packets : List Packet) (end : End) → Reads input packets end → (given ≡ timed packets) ×
+    (end ≡ DamagedEnd place reason))
     → IsSettled new → IsDrained old new events true
 drained-damaged old mid new events place reason stands next settled = record {
   settled = settled;
-  all = λ input given s packets end reads. (next input (given ++ events) (stands input given s) packets end reads).0;
+  all = λ input given s packets end reads.
+      (next input (given ++ events) (stands input given s) packets end reads).0;
   no = λ none. absurd cc;
-  yes = λ _ input given s packets end reads. subst IsDamaged (sym (next input (given ++ events) (stands input given s) packets end reads).1) tt;
+  yes = λ _ input given s packets end reads. subst IsDamaged
+      (sym (next input (given ++ events) (stands input given s) packets end reads).1) tt;
 }
 
 -- a result that is no error is one
@@ -101,10 +130,15 @@ on_ok (Ok x) e p = p
 on_ok (Err x) e p = absurd cc
 
 -- a decoder takes a piece
-pub fed_by : (left_before left : Option (List ℕ)) (old new : Decoding) (total count : ℕ) (buf piece : List ℕ) → piece ≡ take count buf → AreBytes piece → count ≤ length buf → total + count ≤ 2 ^ 33
-    → Consumes left_before left (take count buf) → {T E : Type 0} (pushing : Result T E) → is_ok pushing ≡ true
-    → OnOk pushing ((input : List ℕ) → (given : List TimedEvent) → StandsFor old input given → StandsFor new (input ++ piece) given)
-    → OnOk pushing (pushed new ≡ pushed old + length piece) → OnOk pushing (length new.held ≤ length old.held + length piece)
+pub fed_by : (left_before left : Option (List ℕ)) (old new : Decoding) (total count : ℕ)
+    (buf piece : List ℕ)
+    → piece ≡ take count buf → AreBytes piece → count ≤ length buf → total + count ≤ 2 ^ 33
+    → Consumes left_before left (take count buf) → {T E : Type 0} (pushing : Result T E) → is_ok
+    pushing ≡ true
+    → OnOk pushing ((input : List ℕ) → (given : List TimedEvent) → StandsFor old input given →
+    StandsFor new (input ++ piece) given)
+    → OnOk pushing (pushed new ≡ pushed old + length piece) → OnOk pushing
+    (length new.held ≤ length old.held + length piece)
     → (count < length buf → IsAtEnd left) → IsFed left_before left old new total count buf
 fed_by left_before left old new total count buf piece front bytes few within read pushing ok stands more held ended =
     let long : length piece ≡ count = omega (arith, ap length front, length-take count buf, few) in
@@ -113,7 +147,8 @@ fed_by left_before left old new total count buf piece front bytes few within rea
       within = within;
       bytes = subst AreBytes front bytes;
       read = read;
-      stands = λ input given s. subst (λ (p : List ℕ). StandsFor new (input ++ p) given) front (on_ok pushing ok stands input given s);
+      stands = λ input given s. subst (λ (p : List ℕ). StandsFor new (input ++ p) given) front
+          (on_ok pushing ok stands input given s);
       pushed_more = omega (arith, on_ok pushing ok more, long);
       held = omega (arith, on_ok pushing ok held, long);
       ended = ended;

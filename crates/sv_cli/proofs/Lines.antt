@@ -1,5 +1,6 @@
 -- What is written of some events, and of more after them.
-use Rattle.std.proofs.Common.{◌≡◌, ℕ, List, [], ◌∷◌, ◌++◌, Option, refl, sym, ap, ◌∙◌, subst, append_assoc, append-nil}
+use Rattle.std.proofs.Common.{◌≡◌, ℕ, List, [], ◌∷◌, ◌++◌, Option, refl, sym, ap, ◌∙◌, subst}
+use Rattle.std.proofs.Common.{append_assoc, append-nil}
 use Rattle.sv_base.specs.Streams.{AppendsPart}
 use Rattle.sv_packet.specs.declared.event.TimedEvent.{TimedEvent}
 use Rattle.sv_stream.specs.declared.end.End.{End}
@@ -8,26 +9,37 @@ use Rattle.sv_cli.specs.commands.Check.{last_time}
 use Rattle.sv_cli.proofs.Parts.{part_more}
 
 pub lines_after-append : (text : Text) (earlier events more : List TimedEvent)
-    → lines_after text earlier (events ++ more) ≡ lines_after text earlier events ++ lines_after text (earlier ++ events) more
-lines_after-append text earlier [] more = ap (λ (es : List TimedEvent). lines_after text es more) (sym (append-nil earlier))
+    → lines_after text earlier (events ++ more) ≡ lines_after text earlier events ++ lines_after
+    text (earlier ++ events) more
+lines_after-append text earlier [] more =
+    ap (λ (es : List TimedEvent). lines_after text es more) (sym (append-nil earlier))
 lines_after-append text earlier (e ∷ events) more =
-    ap (λ (k : List ℕ). text.line earlier e ++ k) (lines_after-append text (earlier ++ e ∷ []) events more)
-    ∙ sym (append_assoc (text.line earlier e) (lines_after text (earlier ++ e ∷ []) events) (lines_after text ((earlier ++ e ∷ []) ++ events) more))
-    ∙ ap (λ (es : List TimedEvent). (text.line earlier e ++ lines_after text (earlier ++ e ∷ []) events) ++ lines_after text es more) (append_assoc earlier (e ∷ []) events)
+    ap (λ (k : List ℕ). text.line earlier e ++ k)
+    (lines_after-append text (earlier ++ e ∷ []) events more)
+    ∙ sym (append_assoc (text.line earlier e) (lines_after text (earlier ++ e ∷ []) events)
+    (lines_after text ((earlier ++ e ∷ []) ++ events) more))
+    ∙ ap (λ (es : List TimedEvent).
+    (text.line earlier e ++ lines_after text (earlier ++ e ∷ []) events) ++ lines_after text es
+    more) (append_assoc earlier (e ∷ []) events)
 
 pub lines_after-push : (text : Text) (earlier events : List TimedEvent) (event : TimedEvent)
-    → lines_after text earlier (events ++ event ∷ []) ≡ lines_after text earlier events ++ text.line (earlier ++ events) event
+    → lines_after text earlier (events ++ event ∷ []) ≡ lines_after text earlier events ++ text.line
+    (earlier ++ events) event
 lines_after-push text earlier events event =
     lines_after-append text earlier events (event ∷ [])
-    ∙ ap (λ (k : List ℕ). lines_after text earlier events ++ k) (append-nil (text.line (earlier ++ events) event))
+    ∙ ap (λ (k : List ℕ). lines_after text earlier events ++ k)
+    (append-nil (text.line (earlier ++ events) event))
 
 -- a part of the lines of the first events is a part of those of all
-pub part_of_lines : (text : Text) (old now : Option (List ℕ)) (given more events : List TimedEvent) → events ≡ given ++ more
+pub part_of_lines : (text : Text) (old now : Option (List ℕ)) (given more events : List TimedEvent)
+    → events ≡ given ++ more
     → AppendsPart old now (lines_of text given) → AppendsPart old now (lines_of text events)
 part_of_lines text old now given more events is part =
-    subst (AppendsPart old now) (sym (ap (lines_of text) is ∙ lines_after-append text [] given more))
+    subst (AppendsPart old now)
+    (sym (ap (lines_of text) is ∙ lines_after-append text [] given more))
     (part_more old now (lines_of text given) (lines_after text given more) part)
 
-pub last_time-push : (time : ℕ) (events : List TimedEvent) (event : TimedEvent) → last_time time (events ++ event ∷ []) ≡ event.time
+pub last_time-push : (time : ℕ) (events : List TimedEvent) (event : TimedEvent)
+    → last_time time (events ++ event ∷ []) ≡ event.time
 last_time-push time [] event = refl
 last_time-push time (e ∷ events) event = last_time-push e.time events event

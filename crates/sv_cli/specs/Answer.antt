@@ -1,5 +1,5 @@
--- What a command on a recording answers: its text of the bytes that were read, as far as that is written. A recording is
--- read in pieces, each of which is filled up but for the last one.
+-- What a command on a recording answers: its text of the bytes that were read, as far as that is
+-- written. A recording is read in pieces, each of which is filled up but for the last one.
 use Rattle.std.specs.Prelude.{◌≡◌, ℕ, ◌+◌, ◌*◌, ◌^◌, ◌<◌, ◌≤◌, ◌⊎◌, List, ◌++◌, length, Option}
 use Rattle.std.specs.Io.KnownBytes.{Appends}
 use Rattle.sv_prim.specs.declared.got.Reason.{Reason}
@@ -12,7 +12,9 @@ use Rattle.sv_stream.specs.Decoding.{IsDamaged}
 use Rattle.sv_stream.specs.Reads.{Reads}
 use Rattle.sv_report.specs.Ends.{number_of}
 use Rattle.sv_cli.specs.declared.status.Status.{Status}
-use Rattle.sv_cli.specs.declared.status.Status.TheVariants.{Done, Usage, ReadFault, WriteFault, Damaged, Truncated, NoSync, Workload, TooLong, NoMemory, Unbuilt}
+use Rattle.sv_cli.specs.declared.status.Status.TheVariants.{Done, Usage, ReadFault, WriteFault}
+use Rattle.sv_cli.specs.declared.status.Status.TheVariants.{Damaged, Truncated, NoSync, Workload}
+use Rattle.sv_cli.specs.declared.status.Status.TheVariants.{TooLong, NoMemory, Unbuilt}
 use Rattle.sv_cli.specs.Text.{Text, lines_of, whole_text}
 
 -- how many bytes a piece has
@@ -27,7 +29,8 @@ most_bytes = 2 ^ 33
 abbrev pub IsSound : List ℕ → Type 0
 IsSound bytes = (packets : List Packet) (end : End) → Reads bytes packets end → IsDamaged end → ⊥
 
--- the bytes that were taken: a front of whole pieces that is not damaged, and at most one piece more
+-- the bytes that were taken: a front of whole pieces that is not damaged, and at most one piece
+-- more
 pub record IsIntake (taken front : List ℕ) : Type 0 where
   pub piece : List ℕ
   pub taken_is : taken ≡ front ++ piece
@@ -38,7 +41,8 @@ pub record IsIntake (taken front : List ℕ) : Type 0 where
   pub sound : IsSound front
 
 -- all of the text is written of the bytes that were taken: they are all there are, or damaged
-pub record IsWhole (text : Text) (taken : List ℕ) (all : Type 0) (end : End) (old new : Option (List ℕ)) : Type 0 where
+pub record IsWhole (text : Text) (taken : List ℕ) (all : Type 0) (end : End)
+    (old new : Option (List ℕ)) : Type 0 where
   pub packets : List Packet
   pub reads : Reads taken packets end
   pub through : all ⊎ IsDamaged end
@@ -52,9 +56,10 @@ pub record IsCutOff (text : Text) (front : List ℕ) (old new : Option (List ℕ
   pub reads : Reads front packets end
   pub written : Appends old new (lines_of text (timed packets))
 
--- a part of the lines of the bytes that were taken is written, or a part of their whole text where they are all there are,
--- or damaged
-pub record IsPart (text : Text) (taken : List ℕ) (all : Type 0) (old new : Option (List ℕ)) : Type 0 where
+-- a part of the lines of the bytes that were taken is written, or a part of their whole text where
+-- they are all there are, or damaged
+pub record IsPart (text : Text) (taken : List ℕ) (all : Type 0)
+    (old new : Option (List ℕ)) : Type 0 where
   pub packets : List Packet
   pub end : End
   pub reads : Reads taken packets end
@@ -63,22 +68,27 @@ pub record IsPart (text : Text) (taken : List ℕ) (all : Type 0) (old new : Opt
       ⊎ ((all ⊎ IsDamaged end) × AppendsPart old new (whole_text text (timed packets) end))
 
 -- the answer over the bytes that were taken and their front
-abbrev pub IsAnswer : Text → List ℕ → List ℕ → Type 0 → Option (List ℕ) → Option (List ℕ) → Status → Type 0
+abbrev pub IsAnswer : Text → List ℕ → List ℕ → Type 0 → Option (List ℕ) → Option (List ℕ) → Status
+    → Type 0
 IsAnswer text taken front all old new Done = IsWhole text taken all ends.Clean old new
 IsAnswer text taken front all old new (Damaged place number) =
-    (reason : Reason) × (number ≡ number_of reason) × IsWhole text taken all (ends.Damaged place reason) old new
-IsAnswer text taken front all old new (Truncated held) = IsWhole text taken all (ends.Truncated held) old new
+    (reason : Reason) × (number ≡ number_of reason) × IsWhole text taken all
+    (ends.Damaged place reason) old new
+IsAnswer text taken front all old new (Truncated held) =
+    IsWhole text taken all (ends.Truncated held) old new
 IsAnswer text taken front all old new NoSync = IsWhole text taken all ends.NoSync old new
 IsAnswer text taken front all old new ReadFault =
     (length taken < length front + piece_size) × IsCutOff text front old new
 IsAnswer text taken front all old new (TooLong limit) =
-    (limit ≡ most_bytes) × (length front ≡ most_bytes) × (most_bytes < length taken) × IsCutOff text front old new
+    (limit ≡ most_bytes) × (length front ≡ most_bytes) × (most_bytes < length taken) × IsCutOff text
+    front old new
 IsAnswer text taken front all old new WriteFault = IsPart text taken all old new
 IsAnswer text taken front all old new NoMemory = IsPart text taken all old new
 IsAnswer text taken front all old new other = ⊥
 
 -- the same, with the front that was read of them; `all` says that no bytes are left
-pub record IsShown (text : Text) (taken : List ℕ) (all : Type 0) (old new : Option (List ℕ)) (status : Status) : Type 0 where
+pub record IsShown (text : Text) (taken : List ℕ) (all : Type 0) (old new : Option (List ℕ))
+    (status : Status) : Type 0 where
   pub front : List ℕ
   pub intake : IsIntake taken front
   pub answer : IsAnswer text taken front all old new status

@@ -9,8 +9,10 @@ use Rattle.sv_cli.specs.Recorded.{IsRecorded}
 use Rattle.sv_cli.specs.commands.Events.{events_text}
 use Rattle.sv_cli.specs.commands.Check.{check_text}
 
--- the answer over a file of which these bytes were taken: what is written, the journal, and the status
-abbrev pub AnswersTo : Command → List ℕ → List ℕ → Option (List ℕ) → Option (List ℕ) → List Item → Status → Type 0
+-- the answer over a file of which these bytes were taken: what is written, the journal, and the
+-- status
+abbrev pub AnswersTo : Command → List ℕ → List ℕ → Option (List ℕ) → Option (List ℕ) → List Item
+    → Status → Type 0
 AnswersTo (Events name) file taken old new items status =
     IsShown events_text taken (taken ≡ file) old new status × (items ≡ [])
 AnswersTo (Check name) file taken old new items status =

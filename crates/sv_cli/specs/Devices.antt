@@ -4,8 +4,10 @@ use Rattle.std.specs.Io.KnownBytes.{Appends}
 use Rattle.sv_base.specs.Causes.{Blames, one_more}
 use Rattle.sv_base.specs.Streams.{AppendsPart}
 
--- a source from which a call reads: it begins no file, is to blame where the call failed, and a safe file does not fail
-pub record IsReadFrom (failed : Type 0) (begins_old begins_new : ℕ) (safe_old safe_new : Type 0) (faults_old faults_new : ℕ) : Type 0 where
+-- a source from which a call reads: it begins no file, is to blame where the call failed, and a
+-- safe file does not fail
+pub record IsReadFrom (failed : Type 0) (begins_old begins_new : ℕ) (safe_old safe_new : Type 0)
+    (faults_old faults_new : ℕ) : Type 0 where
   pub begins : begins_new ≡ begins_old
   pub safe : safe_old → (failed → ⊥) × safe_new
   pub blames : Blames failed faults_old faults_new
@@ -16,8 +18,8 @@ HasTaken None left taken = Unit {0}
 HasTaken (Some file) None taken = taken ≡ []
 HasTaken (Some file) (Some rest) taken = file ≡ taken ++ rest
 
--- there are bytes, those of the file where its source tells them, of which a front was taken, as the source tells: a fact
--- holds of both
+-- there are bytes, those of the file where its source tells them, of which a front was taken, as
+-- the source tells: a fact holds of both
 pub record OfFile (held left : Option (List ℕ)) (fact : List ℕ → List ℕ → Type 0) : Type 0 where
   pub file : List ℕ
   pub taken : List ℕ

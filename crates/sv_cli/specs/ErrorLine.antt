@@ -2,7 +2,9 @@
 use Rattle.std.specs.Prelude.{ℕ, List, [], ◌++◌, codes}
 use Rattle.std.specs.Fmt.{decimal}
 use Rattle.sv_cli.specs.declared.status.Status.{Status}
-use Rattle.sv_cli.specs.declared.status.Status.TheVariants.{Done, Usage, ReadFault, WriteFault, Damaged, Truncated, NoSync, Workload, TooLong, NoMemory, Unbuilt}
+use Rattle.sv_cli.specs.declared.status.Status.TheVariants.{Done, Usage, ReadFault, WriteFault}
+use Rattle.sv_cli.specs.declared.status.Status.TheVariants.{Damaged, Truncated, NoSync, Workload}
+use Rattle.sv_cli.specs.declared.status.Status.TheVariants.{TooLong, NoMemory, Unbuilt}
 
 -- the forms of all commands
 abbrev pub usage_line : List ℕ

@@ -1,5 +1,6 @@
 -- What `record` makes of a workload's text, and what it answers where a device fails.
-use Rattle.std.specs.Prelude.{◌≡◌, ℕ, ◌^◌, ◌<◌, ◌≤◌, Bool, true, false, List, [], ◌++◌, length, Option, Some, codes}
+use Rattle.std.specs.Prelude.{◌≡◌, ℕ, ◌^◌, ◌<◌, ◌≤◌, Bool, true, false, List, [], ◌++◌, length}
+use Rattle.std.specs.Prelude.{Option, Some, codes}
 use Rattle.std.specs.Io.KnownBytes.{Appends}
 use Rattle.sv_base.specs.Streams.{AppendsPart}
 use Rattle.sv_workload.specs.Load.{Load}
@@ -12,7 +13,9 @@ use Rattle.sv_core.specs.Start.{has_start}
 use Rattle.sv_cli.specs.declared.simulated.Unsimulated.{Unsimulated}
 use Rattle.sv_cli.specs.declared.simulated.Unsimulated.TheVariants as faults
 use Rattle.sv_cli.specs.declared.status.Status.{Status}
-use Rattle.sv_cli.specs.declared.status.Status.TheVariants.{Done, Usage, ReadFault, WriteFault, Damaged, Truncated, NoSync, Workload, TooLong, NoMemory, Unbuilt}
+use Rattle.sv_cli.specs.declared.status.Status.TheVariants.{Done, Usage, ReadFault, WriteFault}
+use Rattle.sv_cli.specs.declared.status.Status.TheVariants.{Damaged, Truncated, NoSync, Workload}
+use Rattle.sv_cli.specs.declared.status.Status.TheVariants.{TooLong, NoMemory, Unbuilt}
 
 -- the most bytes of a workload
 abbrev pub most_of_workload : ℕ
@@ -33,14 +36,16 @@ pub record IsRun (text : List ℕ) (load : Load) (items : List Item) : Type 0 wh
   pub simulated : IsSimulated load items
 
 -- the whole recording of a run is written, which has a start or not
-pub record IsRecording (text : List ℕ) (old new : Option (List ℕ)) (items : List Item) (started : Bool) : Type 0 where
+pub record IsRecording (text : List ℕ) (old new : Option (List ℕ)) (items : List Item)
+    (started : Bool) : Type 0 where
   pub load : Load
   pub run : IsRun text load items
   pub start : has_start load items ≡ started
   pub written : Appends old new (recording_text load items)
 
 -- a part of it is written
-pub record IsRecordingPart (text : List ℕ) (old new : Option (List ℕ)) (items : List Item) : Type 0 where
+pub record IsRecordingPart (text : List ℕ) (old new : Option (List ℕ))
+    (items : List Item) : Type 0 where
   pub load : Load
   pub run : IsRun text load items
   pub part : AppendsPart old new (recording_text load items)
@@ -60,14 +65,19 @@ abbrev pub IsTextRecorded : List ℕ → Option (List ℕ) → Option (List ℕ)
 IsTextRecorded text old new items Done = IsRecording text old new items true
 IsTextRecorded text old new items NoSync = IsRecording text old new items false
 IsTextRecorded text old new items WriteFault = IsRecordingPart text old new items
-IsTextRecorded text old new items (Workload line reason) = (first_reason text ≡ Some (line, reason)) × IsNothing old new items
-IsTextRecorded text old new items (Unbuilt place) = (place ≡ length text) × IsUnbuilt text × IsNothing old new items
+IsTextRecorded text old new items (Workload line reason) =
+    (first_reason text ≡ Some (line, reason)) × IsNothing old new items
+IsTextRecorded text old new items (Unbuilt place) =
+    (place ≡ length text) × IsUnbuilt text × IsNothing old new items
 IsTextRecorded text old new items NoMemory = IsNothing old new items
 IsTextRecorded text old new items other = ⊥
 
--- the answer over a file's bytes, of which so many were taken: no more than a workload may have, and one piece
-abbrev pub IsRecorded : List ℕ → List ℕ → Option (List ℕ) → Option (List ℕ) → List Item → Status → Type 0
-IsRecorded file taken old new items ReadFault = (length taken ≤ most_of_workload) × IsNothing old new items
+-- the answer over a file's bytes, of which so many were taken: no more than a workload may have,
+-- and one piece
+abbrev pub IsRecorded : List ℕ → List ℕ → Option (List ℕ) → Option (List ℕ) → List Item → Status
+    → Type 0
+IsRecorded file taken old new items ReadFault =
+    (length taken ≤ most_of_workload) × IsNothing old new items
 IsRecorded file taken old new items (TooLong limit) =
     (limit ≡ most_of_workload) × (most_of_workload < length taken) × IsNothing old new items
 IsRecorded file taken old new items NoMemory = IsNothing old new items

@@ -1,5 +1,6 @@
 -- How far a recording is scanned, and what came of it.
-use Rattle.std.specs.Prelude.{◌≡◌, ℕ, ◌+◌, ◌*◌, ◌^◌, ◌<◌, ◌≤◌, ◌⊎◌, Bool, true, false, List, [], ◌++◌, length, take, Option, Result, Ok, Err}
+use Rattle.std.specs.Prelude.{◌≡◌, ℕ, ◌+◌, ◌*◌, ◌^◌, ◌<◌, ◌≤◌, ◌⊎◌, Bool, true, false, List, []}
+use Rattle.std.specs.Prelude.{◌++◌, length, take, Option, Result, Ok, Err}
 use Rattle.std.specs.Io.KnownBytes.{Appends, Consumes, IsAtEnd}
 use Rattle.sv_prim.specs.Text.{AreBytes}
 use Rattle.sv_base.specs.Streams.{ConsumesMore, ConsumesFewer}
@@ -15,7 +16,8 @@ use Rattle.sv_cli.specs.declared.scan.Cut.{Cut}
 use Rattle.sv_cli.specs.declared.scan.Cut.TheVariants as cuts
 use Rattle.sv_cli.specs.declared.scan.Scan.{Scan}
 use Rattle.sv_cli.specs.declared.status.Status.{Status}
-use Rattle.sv_cli.specs.declared.status.Status.TheVariants.{Done, ReadFault, WriteFault, Damaged, Truncated, NoSync, TooLong, NoMemory}
+use Rattle.sv_cli.specs.declared.status.Status.TheVariants.{Done, ReadFault, WriteFault, Damaged}
+use Rattle.sv_cli.specs.declared.status.Status.TheVariants.{Truncated, NoSync, TooLong, NoMemory}
 use Rattle.sv_cli.specs.Answer.{piece_size, most_bytes, IsSound, IsIntake, IsShown}
 use Rattle.sv_cli.specs.Text.{Text, lines_after, lines_of}
 
@@ -30,29 +32,39 @@ status_for (Err cuts.TooLong) = TooLong most_bytes
 status_for (Err cuts.Unwritten) = WriteFault
 status_for (Err cuts.NoMemory) = NoMemory
 
--- a decoder has given these events and no others since, they were shown, and what is written of them is gathered
-pub record HasGiven {V : Type 0} (text : Text) (shown : V → List TimedEvent → Type 0) (old new : Decoding) (before now : V)
+-- a decoder has given these events and no others since, they were shown, and what is written of
+-- them is gathered
+pub record HasGiven {V : Type 0} (text : Text) (shown : V → List TimedEvent → Type 0)
+    (old new : Decoding) (before now : V)
     (lines_before lines : List ℕ) (events : List TimedEvent) : Type 0 where
-  pub stands : (input : List ℕ) (given : List TimedEvent) → StandsFor old input given → StandsFor new input (given ++ events)
+  pub stands : (input : List ℕ) (given : List TimedEvent) → StandsFor old input given → StandsFor
+      new input (given ++ events)
   pub viewed : (given : List TimedEvent) → shown before given → shown now (given ++ events)
-  pub gathered : (given : List TimedEvent) → shown before given → lines ≡ lines_before ++ lines_after text given events
+  pub gathered : (given : List TimedEvent) → shown before given → lines ≡ lines_before ++
+      lines_after text given events
   pub held : length new.held + length events ≤ length old.held
   pub pushed_same : pushed new ≡ pushed old
 
 -- none is left after these events, and whether that is for damage
 pub record IsDrained (old new : Decoding) (events : List TimedEvent) (damaged : Bool) : Type 0 where
   pub settled : IsSettled new
-  pub all : (input : List ℕ) (given : List TimedEvent) → StandsFor old input given → (packets : List Packet) (end : End) → Reads input packets end → given ++ events ≡ timed packets
-  pub no : damaged ≡ false → (input : List ℕ) (given : List TimedEvent) → StandsFor old input given → IsSound input
-  pub yes : damaged ≡ true → (input : List ℕ) (given : List TimedEvent) → StandsFor old input given → (packets : List Packet) (end : End) → Reads input packets end → IsDamaged end
+  pub all : (input : List ℕ) (given : List TimedEvent) → StandsFor old input given →
+      (packets : List Packet) (end : End) → Reads input packets end → given ++ events ≡ timed
+      packets
+  pub no : damaged ≡ false → (input : List ℕ) (given : List TimedEvent) → StandsFor old input given
+      → IsSound input
+  pub yes : damaged ≡ true → (input : List ℕ) (given : List TimedEvent) → StandsFor old input given
+      → (packets : List Packet) (end : End) → Reads input packets end → IsDamaged end
 
 -- the next bytes of a file, and the decoder that took them
-pub record IsFed (left_before left : Option (List ℕ)) (old new : Decoding) (total count : ℕ) (buf : List ℕ) : Type 0 where
+pub record IsFed (left_before left : Option (List ℕ)) (old new : Decoding) (total count : ℕ)
+    (buf : List ℕ) : Type 0 where
   pub few : count ≤ length buf
   pub within : total + count ≤ most_bytes
   pub bytes : AreBytes (take count buf)
   pub read : Consumes left_before left (take count buf)
-  pub stands : (input : List ℕ) (given : List TimedEvent) → StandsFor old input given → StandsFor new (input ++ take count buf) given
+  pub stands : (input : List ℕ) (given : List TimedEvent) → StandsFor old input given → StandsFor
+      new (input ++ take count buf) given
   pub pushed_more : pushed new ≡ pushed old + count
   pub held : length new.held ≤ length old.held + count
   pub ended : count < length buf → IsAtEnd left
@@ -67,12 +79,15 @@ pub record IsLost (left_before left : Option (List ℕ)) : Type 0 where
 -- why no more was fed to a decoder that has these many bytes
 abbrev pub IsUnfed : Option (List ℕ) → Option (List ℕ) → ℕ → Cut → Type 0
 IsUnfed left_before left total cuts.Unread = ConsumesFewer left_before left piece_size
-IsUnfed left_before left total cuts.TooLong = (lost : IsLost left_before left) × (most_bytes < total + length lost.piece)
+IsUnfed left_before left total cuts.TooLong =
+    (lost : IsLost left_before left) × (most_bytes < total + length lost.piece)
 IsUnfed left_before left total cuts.NoMemory = IsLost left_before left
 IsUnfed left_before left total cuts.Unwritten = ⊥
 
--- the bytes of a file so far are read, their events were shown, and what is written of them is written
-pub record IsScanned {V : Type 0} (text : Text) (shown : V → List TimedEvent → Type 0) (left_before left out_before out : Option (List ℕ)) (scan : Scan V) : Type 0 where
+-- the bytes of a file so far are read, their events were shown, and what is written of them is
+-- written
+pub record IsScanned {V : Type 0} (text : Text) (shown : V → List TimedEvent → Type 0)
+    (left_before left out_before out : Option (List ℕ)) (scan : Scan V) : Type 0 where
   pub input : List ℕ
   pub front : List ℕ
   pub intake : IsIntake input front
@@ -90,7 +105,8 @@ pub record IsScanned {V : Type 0} (text : Text) (shown : V → List TimedEvent �
   pub empty : scan.lines.items ≡ []
 
 -- the same between two pieces: the input is whole pieces and not damaged
-pub record IsBetween {V : Type 0} (text : Text) (shown : V → List TimedEvent → Type 0) (left_before left out_before out : Option (List ℕ)) (scan : Scan V) : Type 0 where
+pub record IsBetween {V : Type 0} (text : Text) (shown : V → List TimedEvent → Type 0)
+    (left_before left out_before out : Option (List ℕ)) (scan : Scan V) : Type 0 where
   pub scanned : IsScanned text shown left_before left out_before out scan
   pub pieces : ℕ
   pub whole : length scanned.input ≡ pieces * piece_size
@@ -98,10 +114,12 @@ pub record IsBetween {V : Type 0} (text : Text) (shown : V → List TimedEvent �
 
 -- nothing is left to read, or nothing after damage
 abbrev pub IsEnough : Option (List ℕ) → List ℕ → Type 0
-IsEnough left input = IsAtEnd left ⊎ ((packets : List Packet) (end : End) → Reads input packets end → IsDamaged end)
+IsEnough left input =
+    IsAtEnd left ⊎ ((packets : List Packet) (end : End) → Reads input packets end → IsDamaged end)
 
 -- what the scan of a file came to, whose bytes may be known
-pub record IsScanEnd (text : Text) (left_before left out_before out : Option (List ℕ)) (result : Result End Cut) : Type 0 where
+pub record IsScanEnd (text : Text) (left_before left out_before out : Option (List ℕ))
+    (result : Result End Cut) : Type 0 where
   pub taken : List ℕ
   pub read : Consumes left_before left taken
   pub shown : IsShown text taken (IsAtEnd left) out_before out (status_for result)

@@ -3,7 +3,8 @@ use Rattle.std.specs.Prelude.{ℕ, List, [], ◌∷◌, ◌++◌}
 use Rattle.sv_packet.specs.declared.event.TimedEvent.{TimedEvent}
 use Rattle.sv_stream.specs.declared.end.End.{End}
 
--- what is written of an event that follows the earlier ones, and what after all events, by how the recording ends
+-- what is written of an event that follows the earlier ones, and what after all events, by how the
+-- recording ends
 pub record Text : Type 0 where
   pub line : List TimedEvent → TimedEvent → List ℕ
   pub last : List TimedEvent → End → List ℕ

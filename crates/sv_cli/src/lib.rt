@@ -1,9 +1,10 @@
 //! The commands of the program: their words, what they write, and the status that they end with.
 //!
-//! The contract above this crate is that of [`offline`]: of every file there are bytes, those that its
-//! source tells where it tells them, and the answer of a command is the one that these bytes fix, as far
-//! as devices and memory let it come. A recording's text is that of the pieces that were read of it; a
-//! workload's recording is the stream of a legal journal of it in the order of a simulation.
+//! The contract above this crate is that of [`offline`]: of every file there are bytes, those that
+//! its source tells where it tells them, and the answer of a command is the one that these bytes
+//! fix, as far as devices and memory let it come. A recording's text is that of the pieces that
+//! were read of it; a workload's recording is the stream of a legal journal of it in the order of a
+//! simulation.
 #![tactic(auto)]
 
 mod command;

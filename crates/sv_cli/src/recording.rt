@@ -9,10 +9,12 @@ use sv_base::{Failed, Sink, put_all};
 
 /// Writes the line of a recording and its bytes.
 pub fn put_recording<K: Sink>(out: &mut K, bytes: &[u8]) -> Result<(), Failed>
-    ensures ok { OnOk result (Appends (K.written out.old) (K.written out.new) (header ++ bytes.now)) }
+    ensures ok { OnOk result
+        (Appends (K.written out.old) (K.written out.new) (header ++ bytes.now)) }
     ensures err { OnErr result
         (AppendsPart (K.written out.old) (K.written out.new) (header ++ bytes.now)) }
-    ensures sink { BlamesLast (IsErr result) (K.broken out.new) (K.faults out.old) (K.faults out.new) }
+    ensures sink { BlamesLast (IsErr result)
+        (K.broken out.new) (K.faults out.old) (K.faults out.new) }
 {
     put_all(out, b"; sysview recording\n")?;
     put_all(out, bytes)?;

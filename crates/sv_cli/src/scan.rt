@@ -1,13 +1,16 @@
-//! The one loop that reads a recording: pieces of its file go through a decoder, and what a view makes
-//! of the events is written.
-ghost use Rattle.std.specs.Prelude.{◌≡◌, ◌≢◌, ◌+◌, ◌<◌, ◌≤◌, ◌^◌, ◌⊎◌, ◌∷◌, ◌++◌, [], List, ℕ, Option, true, false, IsTrue, Err, Ok, IsErr, nat_le, length, take, IfOk, IfErr, OnOk};
+//! The one loop that reads a recording: pieces of its file go through a decoder, and what a view
+//! makes of the events is written.
+ghost use Rattle.std.specs.Prelude.{◌≡◌, ◌≢◌, ◌+◌, ◌<◌, ◌≤◌, ◌^◌, ◌⊎◌, ◌∷◌, ◌++◌, [], List, ℕ};
+ghost use Rattle.std.specs.Prelude.{Option, true, false, IsTrue, Err, Ok, IsErr, nat_le, length};
+ghost use Rattle.std.specs.Prelude.{take, IfOk, IfErr, OnOk};
 ghost use Rattle.sv_prim.specs.Text.{AreBytes};
 ghost use Rattle.sv_packet.specs.declared.event.TimedEvent.{TimedEvent as Timed};
 ghost use Rattle.sv_stream.specs.Decoding.{IsSettled, pushed};
 ghost use Rattle.sv_base.specs.Causes.{Blames, BlamesLast, one_more};
 ghost use Rattle.sv_cli.specs.Answer.{piece_size, IsShown};
 ghost use Rattle.sv_cli.specs.Devices.{IsReadFrom, OfFile};
-ghost use Rattle.sv_cli.specs.Scan.{HasGiven, IsDrained, IsFed, IsUnfed, IsScanned, IsBetween, IsEnough, IsScanEnd, status_for};
+ghost use Rattle.sv_cli.specs.Scan.{HasGiven, IsDrained, IsFed, IsUnfed, IsScanned, IsBetween};
+ghost use Rattle.sv_cli.specs.Scan.{IsEnough, IsScanEnd, status_for};
 
 use crate::status::Status;
 use crate::view::View;
@@ -64,9 +67,11 @@ fn drain<V: View>(
     view: &mut V,
     lines: &mut Vec<u8>,
 ) -> Result<bool, NoMemory>
-    requires { (given : List Timed) × V.shown view.old given × (length given + length decoder.old.held ≤ 2 ^ 33) }
+    requires { (given : List Timed) × V.shown view.old given
+        × (length given + length decoder.old.held ≤ 2 ^ 33) }
     ensures { IfOk result (λ damaged. (events : List Timed)
-        × HasGiven V.text V.shown decoder.old decoder.new view.old view.new lines.old.items lines.new.items events
+        × HasGiven V.text V.shown decoder.old decoder.new view.old view.new
+        lines.old.items lines.new.items events
         × IsDrained decoder.old decoder.new events damaged) }
 {
     loop {
@@ -157,7 +162,8 @@ impl<V: View + Drop> Scan<V> {
         ensures same { length buf.new ≡ piece_size }
         ensures over { IfOk result (λ over. (left written : Option (List ℕ)) →
             IsBetween V.text V.shown left (S.left src.old) written (K.written out.old) self.old →
-            (now : IsScanned V.text V.shown left (S.left src.new) written (K.written out.new) self.new)
+            (now : IsScanned V.text V.shown
+            left (S.left src.new) written (K.written out.new) self.new)
             × (over ≡ true → IsEnough (S.left src.new) now.input)
             × (over ≡ false →
             IsBetween V.text V.shown left (S.left src.new) written (K.written out.new) self.new)) }

@@ -162,7 +162,8 @@ fn devices_that_fail(rt: HostRuntime) -> Result<(), Fail> {
     let whole = run(alloc, &words, &file, &[], &[])?;
     assert_eq!(rt; whole.status, Status::Done);
     assert_eq!(rt; whole.out.bytes(), text.as_slice());
-    // Call 1 is that of begin, then each fill is one read, but for the last one, which finds the end.
+    // Call 1 is that of begin, then each fill is one read, but for the last one, which finds the
+    // end.
     for (call, lines) in [(1u64, 0), (2, 0), (3, 0), (4, 1), (5, 2), (6, 2)] {
         let run = run(alloc, &words, &file, &[call], &[])?;
         assert_eq!(rt; run.status, Status::ReadFault, "at call {call}");

@@ -26,7 +26,8 @@ fn answer<S: Source, K: Sink>(
     journal: &mut Journal,
 ) -> Status
     requires { journal.old.items ≡ [] }
-    ensures answered { OfFile (S.held src.old (file_of command.entry)) (S.left src.new) (λ file taken.
+    ensures answered { OfFile (S.held src.old (file_of command.entry)) (S.left src.new)
+        (λ file taken.
         AnswersTo command.entry file taken (K.written out.old) (K.written out.new)
         journal.new.items result) }
     ensures unwritten { is_unwritten command.entry result ≡ true → out.new ≡ out.old }
@@ -45,13 +46,13 @@ fn answer<S: Source, K: Sink>(
 
 /// Does the command that the words name, and says how it ended.
 ///
-/// `words` are those after the program's name. `events F` and `check F` read the file F from `src`, of
-/// at most 2^33 bytes, in pieces of 4096 bytes, and nothing after a piece that is damaged. `events`
-/// writes a line for each event to `out`, those of a piece at once, and an end line; `check` writes how
-/// many packets there are, the time of the last one, and the end line. `record W` reads the workload W,
-/// of at most 2^26 bytes, simulates it, and writes a line and the bytes that were sent; `journal` is
-/// then that of the run. A status other than Done is told to `err`, in one line; what `err` does with
-/// it changes nothing.
+/// `words` are those after the program's name. `events F` and `check F` read the file F from `src`,
+/// of at most 2^33 bytes, in pieces of 4096 bytes, and nothing after a piece that is damaged.
+/// `events` writes a line for each event to `out`, those of a piece at once, and an end line;
+/// `check` writes how many packets there are, the time of the last one, and the end line. `record
+/// W` reads the workload W, of at most 2^26 bytes, simulates it, and writes a line and the bytes
+/// that were sent; `journal` is then that of the run. A status other than Done is told to `err`, in
+/// one line; what `err` does with it changes nothing.
 pub fn offline<S: Source, K: Sink>(
     alloc: Global,
     words: &[&str],

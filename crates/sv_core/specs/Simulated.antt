@@ -13,7 +13,8 @@ use Rattle.sv_core.specs.Order.{Turn, Takes_step, Reads, Reads_all, Sends, is_st
 use Rattle.sv_core.specs.Order.{order_of}
 use Rattle.sv_core.specs.Turns.{step_turns}
 
--- of a list with the latest first, what came before the one with this number that passes, counted from 0
+-- of a list with the latest first, what came before the one with this number that passes, counted
+-- from 0
 abbrev pub before_number : {X : Type 0} → (X → Bool) → ℕ → List X → List X
 before_number test number [] = []
 before_number test number (x ∷ earlier) =
@@ -42,7 +43,8 @@ taken_in load items (Reads_all ∷ earlier) = stored_by load items (count_by is_
 taken_in load items (Takes_step writer ∷ earlier) = taken_in load items earlier
 taken_in load items (Sends ∷ earlier) = taken_in load items earlier
 
--- the calls' turns in the order's turns: a section has a command exactly where more were sent before its step than stand before it
+-- the calls' turns in the order's turns: a section has a command exactly where more were sent
+-- before its step than stand before it
 abbrev pub ordered_turns : Load → List Item → List Turn → List StepTurn
 ordered_turns load items [] = []
 ordered_turns load items (Takes_step writer ∷ earlier) =
@@ -56,7 +58,8 @@ ordered_turns load items (Reads most ∷ earlier) = ordered_turns load items ear
 ordered_turns load items (Reads_all ∷ earlier) = ordered_turns load items earlier
 ordered_turns load items (Sends ∷ earlier) = ordered_turns load items earlier
 
--- the freed of an item is what was taken before its section's step; an overflow's is told by the item after it
+-- the freed of an item is what was taken before its section's step; an overflow's is told by the
+-- item after it
 abbrev pub IsTaken : Load → List Turn → List Item → List Item → Item → Origin → Type 0
 IsTaken load turns items earlier item (Overflow count) = Unit {0}
 IsTaken load turns items earlier item other =
@@ -72,7 +75,8 @@ pub record IsTakenItem (load : Load) (turns : List Turn) (items earlier : List I
   pub taken : IsTaken load turns items earlier item item.origin
   pub overflow_freed : overflow_freed earlier item.freed ≡ item.freed
 
--- the sections are those of the turns' steps, with the commands sent and the bytes taken before each
+-- the sections are those of the turns' steps, with the commands sent and the bytes taken before
+-- each
 pub record IsInOrder (load : Load) (turns : List Turn) (items : List Item) : Type 0 where
   pub steps : step_turns items ≡ ordered_turns load items (reverse turns)
   pub freed : EachItem (IsTakenItem load turns items) (latest_first items)

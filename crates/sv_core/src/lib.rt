@@ -1,9 +1,9 @@
-//! Whole runs of a workload: in which order its writers and the host take their turns, the journal that
-//! such a run gives, and the simulation that runs it over one ring.
+//! Whole runs of a workload: in which order its writers and the host take their turns, the journal
+//! that such a run gives, and the simulation that runs it over one ring.
 //!
-//! The contract above this crate is that of [`simulate`]: the journal is legal, whole and in the order
-//! of a simulation, and the bytes that were sent are its stream. By the law [`simulated_once`] a
-//! workload has one such journal at most.
+//! The contract above this crate is that of [`simulate`]: the journal is legal, whole and in the
+//! order of a simulation, and the bytes that were sent are its stream. By the law
+//! [`simulated_once`] a workload has one such journal at most.
 #![tactic(auto)]
 
 mod laws;

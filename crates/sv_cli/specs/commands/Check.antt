@@ -17,5 +17,6 @@ numbered words number = words ++ (decimal number ++ codes "\n")
 abbrev pub check_text : Text
 check_text = record {
   line = λ earlier event. [];
-  last = λ events end. numbered (codes "packets ") (length events) ++ (numbered (codes "ticks ") (last_time 0 events) ++ end_line end);
+  last = λ events end. numbered (codes "packets ") (length events) ++
+      (numbered (codes "ticks ") (last_time 0 events) ++ end_line end);
 }

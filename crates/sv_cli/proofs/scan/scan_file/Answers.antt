@@ -8,9 +8,14 @@ use Rattle.sv_cli.proofs.scan.scan_file.Goals as goal
 
 pub returns-in_default-clause-answered : goal.returns-in_default-clause-answered
 returns-in_default-clause-answered g c =
-    of_nothing (g.S.Source.held c.args.src.now c.args.name.now) (g.S.Source.left c.begin.new.self) _ c.in_default.ensures.unopened (λ file. nothing_answered g.V.View.text file (g.K.Sink.written c.args.out.now))
+    of_nothing (g.S.Source.held c.args.src.now c.args.name.now) (g.S.Source.left c.begin.new.self) _
+    c.in_default.ensures.unopened
+    (λ file. nothing_answered g.V.View.text file (g.K.Sink.written c.args.out.now))
 
 pub returns-clause-answered : goal.returns-clause-answered
 returns-clause-answered g c =
-    of_scan g.V.View.text (g.S.Source.held c.args.src.now c.args.name.now) (g.S.Source.left c.begin.new.self) (g.S.Source.left c.scan_open.new.src) (g.K.Sink.written c.args.out.now) (g.K.Sink.written c.scan_open.new.out)
-    c.scan_open.result c.status_of.result c.status_of.ensures c.in-Ok.ensures.content c.scan_open.ensures.ended
+    of_scan g.V.View.text (g.S.Source.held c.args.src.now c.args.name.now)
+    (g.S.Source.left c.begin.new.self) (g.S.Source.left c.scan_open.new.src)
+    (g.K.Sink.written c.args.out.now) (g.K.Sink.written c.scan_open.new.out)
+    c.scan_open.result c.status_of.result c.status_of.ensures c.in-Ok.ensures.content
+    c.scan_open.ensures.ended

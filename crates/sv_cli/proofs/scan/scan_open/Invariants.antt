@@ -5,7 +5,8 @@ use Rattle.sv_cli.proofs.scan.scan_open.Given as goal
 
 abbrev pub invariant-loop-scan : goal.invariant-loop-scan
 invariant-loop-scan g l = record {
-  between : IsBetween g.V.View.text g.V.View.shown (g.S.Source.left l.fn.src) (g.S.Source.left l.src) (g.K.Sink.written l.fn.out) (g.K.Sink.written l.out) l.scan;
+  between : IsBetween g.V.View.text g.V.View.shown (g.S.Source.left l.fn.src)
+      (g.S.Source.left l.src) (g.K.Sink.written l.fn.out) (g.K.Sink.written l.out) l.scan;
   opened : g.S.Source.opened l.src ≡ true;
   room : length l.buf ≡ piece_size;
   begins : g.S.Source.begins l.src ≡ g.S.Source.begins l.fn.src;

@@ -7,22 +7,32 @@ use Rattle.sv_cli.proofs.top.offline.Goals as goal
 pub returns-clause-answered : goal.returns-clause-answered
 returns-clause-answered g c = λ asked is. elim c.match-parse.branch [
   | in-Some w ↦
-      answered_as w.in-Some.command asked (g.S.Source.held c.args.src.now) (g.S.Source.left w.answer-status.new.src) (g.S.Source.left c.match-parse.src) (g.K.Sink.written c.args.out.now) (g.K.Sink.written w.answer-status.new.out) (g.K.Sink.written c.match-parse.out)
-      w.answer-status.new.journal.items c.match-parse.journal.items w.answer-status.result c.match-parse.status
-      (sym w.in-Some.ensures ∙ is) (ap g.S.Source.left w.src-is) (ap g.K.Sink.written w.out-is) (ap (λ j. j.items) w.journal-is) w.status-is w.answer-status.ensures.answered
+      answered_as w.in-Some.command asked (g.S.Source.held c.args.src.now)
+      (g.S.Source.left w.answer-status.new.src) (g.S.Source.left c.match-parse.src)
+      (g.K.Sink.written c.args.out.now) (g.K.Sink.written w.answer-status.new.out)
+      (g.K.Sink.written c.match-parse.out)
+      w.answer-status.new.journal.items c.match-parse.journal.items w.answer-status.result
+      c.match-parse.status
+      (sym w.in-Some.ensures ∙ is) (ap g.S.Source.left w.src-is) (ap g.K.Sink.written w.out-is)
+      (ap (λ j. j.items) w.journal-is) w.status-is w.answer-status.ensures.answered
   | in-None w ↦ absurd (w.in-None.ensures asked is)
 ]
 
 pub returns-clause-unwritten : goal.returns-clause-unwritten
 returns-clause-unwritten g c = λ asked is silent. elim c.match-parse.branch [
   | in-Some w ↦
-      w.out-is ∙ w.answer-status.ensures.unwritten (same_unwritten w.in-Some.command asked w.answer-status.result (sym w.in-Some.ensures ∙ is) ∙ ap (λ s. is_unwritten asked s) (sym w.status-is) ∙ silent)
+      w.out-is ∙ w.answer-status.ensures.unwritten
+      (same_unwritten w.in-Some.command asked w.answer-status.result
+      (sym w.in-Some.ensures ∙ is) ∙ ap (λ s. is_unwritten asked s) (sym w.status-is) ∙ silent)
   | in-None w ↦ absurd (w.in-None.ensures asked is)
 ]
 
 pub returns-clause-sure : goal.returns-clause-sure
 returns-clause-sure g c = λ asked is sure. elim c.match-parse.branch [
   | in-Some w ↦ λ fault.
-      w.answer-status.ensures.sure (subst (λ (name : List ℕ). g.S.Source.sure c.args.src.now name) (sym (same_file w.in-Some.command asked (sym w.in-Some.ensures ∙ is))) sure) (sym w.status-is ∙ fault)
+      w.answer-status.ensures.sure
+      (subst (λ (name : List ℕ). g.S.Source.sure c.args.src.now name)
+      (sym (same_file w.in-Some.command asked (sym w.in-Some.ensures ∙ is))) sure)
+      (sym w.status-is ∙ fault)
   | in-None w ↦ absurd (w.in-None.ensures asked is)
 ]

@@ -9,21 +9,29 @@ pub returns-in_default-clause-recorded : goal.returns-in_default-clause-recorded
 returns-in_default-clause-recorded g c = record {
   load = c.in-Ok.made.load;
   run = c.in-Ok.ensures.run;
-  part = subst (λ (bs : List ℕ). AppendsPart (g.K.Sink.written c.args.out.now) (g.K.Sink.written c.put_recording.new.out) (header ++ bs)) (c.bytes.ensures ∙ c.in-Ok.ensures.sent) c.in_default.ensures.err;
+  part = subst (λ (bs : List ℕ). AppendsPart (g.K.Sink.written c.args.out.now)
+      (g.K.Sink.written c.put_recording.new.out) (header ++ bs))
+      (c.bytes.ensures ∙ c.in-Ok.ensures.sent) c.in_default.ensures.err;
 }
 
 pub returns-then-not-has_start-clause-recorded : goal.returns-then-not-has_start-clause-recorded
 returns-then-not-has_start-clause-recorded g c = record {
   load = c.in-Ok.made.load;
   run = c.in-Ok.ensures.run;
-  start = sym (ap (holds_start c.in-Ok.made.load) c.items.ensures) ∙ sym c.has_start.ensures ∙ c.if-not-has_start.true;
-  written = subst (λ (bs : List ℕ). Appends (g.K.Sink.written c.args.out.now) (g.K.Sink.written c.put_recording.new.out) (header ++ bs)) (c.bytes.ensures ∙ c.in-Ok.ensures.sent) c.in-Ok-put_recording.ensures.ok;
+  start = sym (ap (holds_start c.in-Ok.made.load) c.items.ensures) ∙ sym c.has_start.ensures ∙
+      c.if-not-has_start.true;
+  written = subst (λ (bs : List ℕ). Appends (g.K.Sink.written c.args.out.now)
+      (g.K.Sink.written c.put_recording.new.out) (header ++ bs))
+      (c.bytes.ensures ∙ c.in-Ok.ensures.sent) c.in-Ok-put_recording.ensures.ok;
 }
 
 pub returns-clause-recorded : goal.returns-clause-recorded
 returns-clause-recorded g c = record {
   load = c.in-Ok.made.load;
   run = c.in-Ok.ensures.run;
-  start = sym (ap (holds_start c.in-Ok.made.load) c.items.ensures) ∙ sym c.has_start.ensures ∙ c.if-not-has_start.false;
-  written = subst (λ (bs : List ℕ). Appends (g.K.Sink.written c.args.out.now) (g.K.Sink.written c.put_recording.new.out) (header ++ bs)) (c.bytes.ensures ∙ c.in-Ok.ensures.sent) c.in-Ok-put_recording.ensures.ok;
+  start = sym (ap (holds_start c.in-Ok.made.load) c.items.ensures) ∙ sym c.has_start.ensures ∙
+      c.if-not-has_start.false;
+  written = subst (λ (bs : List ℕ). Appends (g.K.Sink.written c.args.out.now)
+      (g.K.Sink.written c.put_recording.new.out) (header ++ bs))
+      (c.bytes.ensures ∙ c.in-Ok.ensures.sent) c.in-Ok-put_recording.ensures.ok;
 }

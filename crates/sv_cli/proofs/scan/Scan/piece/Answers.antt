@@ -6,23 +6,40 @@ use Rattle.sv_cli.proofs.scan.Scan.piece.Goals as goal
 
 pub returns-in-Err-clause-cut : goal.returns-in-Err-clause-cut
 returns-in-Err-clause-cut g c = λ left written between.
-    cut_unfed g.V.View.text g.V.View.shown left written (g.S.Source.left c.args.src.now) (g.K.Sink.written c.args.out.now) c.args.self.now between (g.S.Source.left c.feed.new.src) c.in-Err.cut c.in-Err.ensures.unfed
+    cut_unfed g.V.View.text g.V.View.shown left written (g.S.Source.left c.args.src.now)
+    (g.K.Sink.written c.args.out.now) c.args.self.now between (g.S.Source.left c.feed.new.src)
+    c.in-Err.cut c.in-Err.ensures.unfed
 
 pub returns-in_default-clause-cut : goal.returns-in_default-clause-cut
 returns-in_default-clause-cut g c = λ left written between.
-    cut_undrained g.V.View.text g.V.View.shown left written (g.S.Source.left c.args.src.now) (g.K.Sink.written c.args.out.now) c.args.self.now between (g.S.Source.left c.feed.new.src) c.feed.new.decoder c.drain.new.decoder c.in-Ok.count c.feed.new.buf c.feed.ensures.same c.in-Ok.ensures.fed
+    cut_undrained g.V.View.text g.V.View.shown left written (g.S.Source.left c.args.src.now)
+    (g.K.Sink.written c.args.out.now) c.args.self.now between (g.S.Source.left c.feed.new.src)
+    c.feed.new.decoder c.drain.new.decoder c.in-Ok.count c.feed.new.buf c.feed.ensures.same
+    c.in-Ok.ensures.fed
 
 pub returns-in_default-put_all-clause-cut : goal.returns-in_default-put_all-clause-cut
 returns-in_default-put_all-clause-cut g c = λ left written between.
     let given = c.in-Ok-drain.ensures in
-    cut_lines g.V.View.text g.V.View.shown left written (g.S.Source.left c.args.src.now) (g.K.Sink.written c.args.out.now) c.args.self.now between (g.S.Source.left c.feed.new.src) c.feed.new.decoder c.drain.new.decoder c.in-Ok.count c.feed.new.buf c.feed.ensures.same c.in-Ok.ensures.fed
-    c.drain.new.view c.drain.new.lines.items given.0 c.in-Ok-drain.damaged given.1 given.2 (g.K.Sink.written c.put_all.new.out)
-    (subst (λ (k : List ℕ). AppendsPart (g.K.Sink.written c.args.out.now) (g.K.Sink.written c.put_all.new.out) k) c.deref.ensures.value c.in_default-put_all.ensures.err)
+    cut_lines g.V.View.text g.V.View.shown left written (g.S.Source.left c.args.src.now)
+    (g.K.Sink.written c.args.out.now) c.args.self.now between (g.S.Source.left c.feed.new.src)
+    c.feed.new.decoder c.drain.new.decoder c.in-Ok.count c.feed.new.buf c.feed.ensures.same
+    c.in-Ok.ensures.fed
+    c.drain.new.view c.drain.new.lines.items given.0 c.in-Ok-drain.damaged given.1 given.2
+    (g.K.Sink.written c.put_all.new.out)
+    (subst (λ (k : List ℕ). AppendsPart (g.K.Sink.written c.args.out.now)
+    (g.K.Sink.written c.put_all.new.out) k) c.deref.ensures.value
+    c.in_default-put_all.ensures.err)
 
 pub returns-clause-over : goal.returns-clause-over
 returns-clause-over g c = λ left written between.
     let given = c.in-Ok-drain.ensures in
-    let now = scanned_now g.V.View.text g.V.View.shown left written (g.S.Source.left c.args.src.now) (g.K.Sink.written c.args.out.now) c.args.self.now between (g.S.Source.left c.feed.new.src) c.feed.new.decoder c.drain.new.decoder c.in-Ok.count c.feed.new.buf c.feed.ensures.same c.in-Ok.ensures.fed
-    c.drain.new.view c.drain.new.lines.items given.0 c.in-Ok-drain.damaged given.1 given.2 (g.K.Sink.written c.put_all.new.out) _
-    (subst (λ (k : List ℕ). Appends (g.K.Sink.written c.args.out.now) (g.K.Sink.written c.put_all.new.out) k) c.deref.ensures.value c.in-Ok-put_all.ensures.ok) refl refl c.clear.ensures.items refl in
+    let now = scanned_now g.V.View.text g.V.View.shown left written (g.S.Source.left c.args.src.now)
+    (g.K.Sink.written c.args.out.now) c.args.self.now between (g.S.Source.left c.feed.new.src)
+    c.feed.new.decoder c.drain.new.decoder c.in-Ok.count c.feed.new.buf c.feed.ensures.same
+    c.in-Ok.ensures.fed
+    c.drain.new.view c.drain.new.lines.items given.0 c.in-Ok-drain.damaged given.1 given.2
+    (g.K.Sink.written c.put_all.new.out) _
+    (subst (λ (k : List ℕ). Appends (g.K.Sink.written c.args.out.now)
+    (g.K.Sink.written c.put_all.new.out) k) c.deref.ensures.value c.in-Ok-put_all.ensures.ok)
+    refl refl c.clear.ensures.items refl in
     (now.0, λ over. now.1 (c.is_over.ensures.yes over), λ more. now.2 (c.is_over.ensures.no more))

@@ -1,4 +1,5 @@
-use Rattle.std.proofs.Common.{◌≡◌, ℕ, ◌+◌, List, [], ◌∷◌, ◌++◌, length, arith, ap, sym, ◌∙◌, length-append}
+use Rattle.std.proofs.Common.{◌≡◌, ℕ, ◌+◌, List, [], ◌∷◌, ◌++◌, length, arith, ap, sym, ◌∙◌}
+use Rattle.std.proofs.Common.{length-append}
 use Rattle.sv_packet.specs.declared.event.TimedEvent.{TimedEvent}
 use Rattle.sv_cli.specs.declared.commands.check.Check.{Check}
 use Rattle.sv_cli.specs.commands.Check.{last_time}
@@ -8,6 +9,8 @@ use Rattle.sv_cli.proofs.commands.check.CheckView.event.Goals as goal
 pub returns-clause-shown : goal.returns-clause-shown
 returns-clause-shown c = λ earlier is.
     let event = c.args.event.now in
-    let packets : c.args.self.now.packets + 1 ≡ length (earlier ++ event ∷ []) = omega (arith, ap (λ (k : Check). k.packets) is, length-append earlier (event ∷ [])) in
+    let packets : c.args.self.now.packets + 1 ≡ length (earlier ++ event ∷ []) = omega
+    (arith, ap (λ (k : Check). k.packets) is, length-append earlier (event ∷ [])) in
     ap (λ (n : ℕ). record { packets = n; time = event.time }) packets
-    ∙ ap (λ (n : ℕ). record { packets = length (earlier ++ event ∷ []); time = n }) (sym (last_time-push 0 earlier event))
+    ∙ ap (λ (n : ℕ). record { packets = length (earlier ++ event ∷ []); time = n })
+    (sym (last_time-push 0 earlier event))

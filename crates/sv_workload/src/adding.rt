@@ -4,21 +4,16 @@ ghost use Rattle.std.specs.List.{list_all};
 ghost use Rattle.sv_workload.specs.declared.keyword.Keyword.{Keyword};
 ghost use Rattle.sv_workload.specs.declared.keyword.Keyword.TheVariants.{Setup, Act, Turn};
 ghost use Rattle.sv_workload.specs.Forms.{is_in, form_of};
-ghost use Rattle.sv_workload.specs.Line.{numbers_of};
-ghost use Rattle.sv_workload.specs.Numbers.{capped};
 ghost use Rattle.sv_workload.specs.Need.{one_if, is_start_act, IsStepAct, IsTask, IsTurn};
 ghost use Rattle.sv_workload.specs.Settings.{tell};
 ghost use Rattle.sv_workload.specs.Scripts.{onto_last, over_scripts};
 ghost use Rattle.sv_workload.specs.Draft.{IsGoodBehind, HasTaken, is_later};
 
-use crate::cutting::CutLine;
 use crate::draft::Draft;
-use crate::form::Form;
 use crate::keyword::{ActWord, Keyword, SetupWord};
 use crate::load::{Action, Step, Task};
 use crate::making::{action, step, task};
-use crate::numbers::first_number;
-use crate::texting::text_behind;
+use crate::read_line::ReadLine;
 use std::alloc::Global;
 use sv_prim::NoMemory;
 
@@ -86,70 +81,48 @@ impl Draft {
     fn add_setup(
         &mut self,
         alloc: Global,
-        line: &CutLine<'_>,
+        line: &ReadLine<'_>,
         word: SetupWord,
-        form: &Form,
-        numbers: &[u32],
     ) -> Result<(), NoMemory>
         requires keyword { line.now.keyword ≡ Setup word }
-        requires form { form.now ≡ form_of line.now.keyword }
-        requires numbers { numbers.now ≡ map capped (numbers_of line.now) }
         requires known { is_later line.now.keyword ≡ false }
         requires good { IsGoodBehind self.old line.now }
         ensures { OnOk result (HasTaken self.old self.new line.now) }
     {
         match word {
             SetupWord::Task => {
-                let task = task(alloc, numbers, text_behind(line, form))?;
+                let task = task(alloc, line)?;
                 self.add_task(task)
             }
             _ => {
-                self.add_setting(word, first_number(numbers));
+                self.add_setting(word, line.first_number());
                 Ok(())
             }
         }
     }
 
     /// Adds a step to the writer that was named last.
-    fn add_act(
-        &mut self,
-        alloc: Global,
-        line: &CutLine<'_>,
-        word: ActWord,
-        form: &Form,
-        numbers: &[u32],
-    ) -> Result<(), NoMemory>
+    fn add_act(&mut self, alloc: Global, line: &ReadLine<'_>, word: ActWord) -> Result<(), NoMemory>
         requires keyword { line.now.keyword ≡ Act word }
-        requires form { form.now ≡ form_of line.now.keyword }
-        requires numbers { numbers.now ≡ map capped (numbers_of line.now) }
         requires good { IsGoodBehind self.old line.now }
         ensures { OnOk result (HasTaken self.old self.new line.now) }
     {
-        let text = text_behind(line, form);
         let base = self.settings.base();
         let shift = self.settings.shift();
-        let step = step(alloc, line, word, numbers, text, base, shift)?;
+        let step = step(alloc, line, word, base, shift)?;
         self.add_step(step)
     }
 
     /// Adds what a line without a fault says. Memory is taken for what is kept of it alone.
-    pub fn add(
-        &mut self,
-        alloc: Global,
-        line: &CutLine<'_>,
-        form: &Form,
-        numbers: &[u32],
-    ) -> Result<(), NoMemory>
-        requires form { form.now ≡ form_of line.now.keyword }
-        requires numbers { numbers.now ≡ map capped (numbers_of line.now) }
+    pub fn add(&mut self, alloc: Global, line: &ReadLine<'_>) -> Result<(), NoMemory>
         requires known { is_later line.now.keyword ≡ false }
         requires good { IsGoodBehind self.old line.now }
         ensures { OnOk result (HasTaken self.old self.new line.now) }
     {
-        match line.keyword {
-            Keyword::Setup(word) => self.add_setup(alloc, line, word, form, numbers),
+        match line.keyword() {
+            Keyword::Setup(word) => self.add_setup(alloc, line, word),
             Keyword::Writer => self.add_writer(alloc),
-            Keyword::Act(word) => self.add_act(alloc, line, word, form, numbers),
+            Keyword::Act(word) => self.add_act(alloc, line, word),
             Keyword::Schedule => {
                 self.add_schedule();
                 Ok(())
@@ -157,7 +130,7 @@ impl Draft {
             Keyword::Turn(word) => {
                 // The draft's invariant says that there are few writers, so the turn's number is whole.
                 let _ = &self.schedule;
-                self.add_turn(action(word, numbers))
+                self.add_turn(action(line, word))
             }
             Keyword::Unknown => Ok(()),
         }

@@ -24,6 +24,7 @@ mod numbering;
 mod numbers;
 mod parsing;
 mod range;
+mod read_line;
 mod scripts;
 mod settings;
 mod shaping;

@@ -1,18 +1,16 @@
 //! What a line that is good makes.
-ghost use Rattle.std.specs.Prelude.{◌≡◌, ◌^◌, ◌<◌, ◌≤◌, Some, IfOk, map, slice_index};
+ghost use Rattle.std.specs.Prelude.{◌≡◌, ◌^◌, ◌<◌, ◌≤◌, Some, IfOk, slice_index};
 ghost use Rattle.sv_workload.specs.declared.keyword.SetupWord.TheVariants as setup;
 ghost use Rattle.sv_workload.specs.declared.keyword.Keyword.TheVariants.{Setup, Act, Turn};
-ghost use Rattle.sv_workload.specs.Numbers.{capped};
-ghost use Rattle.sv_workload.specs.Line.{Line, numbers_of, text_of};
 ghost use Rattle.sv_workload.specs.Fit.{IsFit};
 ghost use Rattle.sv_workload.specs.Meaning.{number, task_of, step_by, action_by, action_of};
 ghost use Rattle.sv_workload.specs.Need.{IsStepAct};
 
 use crate::acting::act;
-use crate::cutting::CutLine;
 use crate::keyword::{ActWord, TurnWord};
 use crate::load::{Action, Step, Task};
 use crate::numbers::number_or;
+use crate::read_line::ReadLine;
 use std::alloc::Global;
 use sv_prim::{Bytes, NoMemory};
 
@@ -32,12 +30,12 @@ fn turn(word: TurnWord, numbers: &[u32]) -> Action
     }
 }
 
-/// The turn that a line of the schedule gives away, by its word and its numbers.
-pub fn action(word: TurnWord, numbers: &[u32]) -> Action
-    ensures { (line : Line) → line.keyword ≡ Turn word → IsFit line → number line 0 < 2 ^ 32
-        → numbers.now ≡ map capped (numbers_of line) → Some result ≡ action_of line }
+/// The turn that a line of the schedule gives away, by its word.
+pub fn action(line: &ReadLine<'_>, word: TurnWord) -> Action
+    ensures { line.now.keyword ≡ Turn word → IsFit line.now → number line.now 0 < 2 ^ 32
+        → Some result ≡ action_of line.now }
 {
-    turn(word, numbers)
+    turn(word, line.numbers())
 }
 
 /// A task of these numbers and this name.
@@ -62,37 +60,33 @@ fn named_task(alloc: Global, numbers: &[u32], name: &[u8]) -> Result<Task, NoMem
     })
 }
 
-/// The task of a line, by the line's numbers and its text. Memory is taken for the name alone.
-pub fn task(alloc: Global, numbers: &[u32], text: &[u8]) -> Result<Task, NoMemory>
-    ensures { (line : Line) → line.keyword ≡ Setup setup.Task → IsFit line → numbers.now ≡ map capped (numbers_of line)
-        → text.now ≡ text_of line → IfOk result (λ t. t ≡ task_of line) }
+/// The task of a line. Memory is taken for the name alone.
+pub fn task(alloc: Global, line: &ReadLine<'_>) -> Result<Task, NoMemory>
+    ensures { line.now.keyword ≡ Setup setup.Task → IsFit line.now
+        → IfOk result (λ t. t ≡ task_of line.now) }
 {
-    named_task(alloc, numbers, text)
+    named_task(alloc, line.numbers(), line.text())
 }
 
-/// The step of a line, by its word, its numbers and its text. The base is an address in bytes from
-/// which identifiers are counted, and the shift the count of their low bits that are dropped, 0 to 31.
+/// The step of a line, by its word. The base is an address in bytes from which identifiers are counted,
+/// and the shift the count of their low bits that are dropped, 0 to 31.
 ///
 /// Memory is taken once for a text or for the numbers of a call, and else not.
 pub fn step(
     alloc: Global,
-    line: &CutLine<'_>,
+    line: &ReadLine<'_>,
     word: ActWord,
-    numbers: &[u32],
-    text: &[u8],
     base: u32,
     shift: u32,
 ) -> Result<Step, NoMemory>
     requires keyword { line.now.keyword ≡ Act word }
     requires fit { IsFit line.now }
-    requires numbers { numbers.now ≡ map capped (numbers_of line.now) }
-    requires text { text.now ≡ text_of line.now }
     requires shift { shift ≤ 31 }
     ensures ok { IfOk result (λ s. Some s ≡ step_by line.now.keyword base shift line.now) }
     ensures advance { IfOk result (λ s. s.advance ≤ 8589934592) }
     ensures act { IfOk result (λ s. IsStepAct s.act) }
 {
-    let act = act(alloc, word, numbers, text, base, shift)?;
+    let act = act(alloc, word, line.numbers(), line.text(), base, shift)?;
     let advance = line.ticks();
     Ok(Step { advance, act })
 }

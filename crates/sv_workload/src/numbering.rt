@@ -2,13 +2,13 @@
 ghost use Rattle.std.specs.Prelude.{◌≡◌, ℕ, ◌-◌, ◌^◌, min, List, drop, length, true, IsTrue, ◌++◌};
 ghost use Rattle.std.specs.Option.{option_map_or};
 ghost use Rattle.sv_workload.specs.Line.{Line};
-ghost use Rattle.sv_workload.specs.Forms.{between, form_of, is_in};
+ghost use Rattle.sv_workload.specs.Forms.{between, is_in};
 ghost use Rattle.sv_workload.specs.Checks.{is_within, are_within, has_bad_number};
 
-use crate::cutting::CutLine;
 use crate::form::Form;
 use crate::number::capped_number;
 use crate::range::{Range, is_within};
+use crate::read_line::ReadLine;
 use crate::words::Words;
 
 /// The most ticks before a step.
@@ -67,9 +67,8 @@ fn are_numbers(mut words: Words<'_>, form: &Form) -> bool
 }
 
 /// Whether the ticks or a word for a number are no number, or one out of its range.
-pub fn has_bad_number(line: &CutLine<'_>, form: &Form) -> bool
-    requires { form.now ≡ form_of line.now.keyword }
+pub fn has_bad_number(line: &ReadLine<'_>) -> bool
     ensures { (before : List Line) → result ≡ has_bad_number before line.now }
 {
-    !(are_ticks(line.advance) && are_numbers(line.words.again(), form))
+    !(are_ticks(line.advance()) && are_numbers(line.words(), line.form()))
 }

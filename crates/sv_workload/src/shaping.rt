@@ -2,13 +2,12 @@
 ghost use Rattle.std.specs.Prelude.{◌≡◌, List, false, nat_le, ◌&&◌, take, drop, length, IsTrue};
 ghost use Rattle.std.specs.List.{list_all, join_with_byte};
 ghost use Rattle.sv_workload.specs.Line.{Line};
-ghost use Rattle.sv_workload.specs.Forms.{form_of};
 ghost use Rattle.sv_workload.specs.Meaning.{says};
 ghost use Rattle.sv_workload.specs.Checks.{is_word, fits, is_misshapen};
 
-use crate::cutting::CutLine;
 use crate::form::Form;
 use crate::keyword::{Keyword, SetupWord};
+use crate::read_line::ReadLine;
 use crate::words::Words;
 
 fn is_word(word: &[u8]) -> bool
@@ -66,10 +65,9 @@ fn fits(mut words: Words<'_>, form: &Form) -> bool
 }
 
 /// Whether a word of a line is missing, empty or too many. The line is none of a command.
-pub fn is_misshapen(line: &CutLine<'_>, form: &Form) -> bool
-    requires form { form.now ≡ form_of line.now.keyword }
-    requires other { says (Keyword.Setup SetupWord.Command) line.now ≡ false }
+pub fn is_misshapen(line: &ReadLine<'_>) -> bool
+    requires { says (Keyword.Setup SetupWord.Command) line.now ≡ false }
     ensures { (before : List Line) → result ≡ is_misshapen before line.now }
 {
-    !fits(line.words.again(), form)
+    !fits(line.words(), line.form())
 }

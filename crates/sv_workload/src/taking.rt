@@ -7,11 +7,9 @@ ghost use Rattle.sv_workload.specs.Checks.{fault_of};
 ghost use Rattle.sv_workload.specs.Draft.{Stands};
 ghost use Rattle.sv_workload.specs.Grammar.{said, fault_at};
 
-use crate::cutting::cut_into_words;
 use crate::draft::Draft;
 use crate::fault::LineFault;
-use crate::form::form_of;
-use crate::numbers::numbers_of;
+use crate::read_line::ReadLine;
 use std::alloc::Global;
 use sv_prim::NoMemory;
 
@@ -33,13 +31,11 @@ impl Draft {
         ensures good { (lines : List Line) → Stands self.old lines → result ≡ Ok None
             → (fault_of lines (line_of bytes.now) ≡ None) × Stands self.new (lines ++ line_of bytes.now ∷ []) }
     {
-        let line = cut_into_words(bytes);
-        let form = form_of(line.keyword);
-        let numbers = numbers_of(&line, &form);
-        if let Some(fault) = self.fault(&line, &form, numbers.as_slice()) {
+        let line = ReadLine::of(bytes);
+        if let Some(fault) = self.fault(&line) {
             return Ok(Some(fault));
         }
-        self.add(alloc, &line, &form, numbers.as_slice())?;
+        self.add(alloc, &line)?;
         Ok(None)
     }
 

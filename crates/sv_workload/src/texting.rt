@@ -2,16 +2,14 @@
 ghost use Rattle.std.specs.Prelude.{◌≡◌, List, ◌&&◌, not, nat_le, drop, length, false};
 ghost use Rattle.std.specs.List.{list_all, join_with_byte};
 ghost use Rattle.std.specs.Option.{option_map_or};
-ghost use Rattle.sv_workload.specs.Line.{Line, text_of};
-ghost use Rattle.sv_workload.specs.Forms.{form_of};
+ghost use Rattle.sv_workload.specs.Line.{Line};
 ghost use Rattle.sv_workload.specs.Checks.{is_printable, has_bad_text};
 
-use crate::cutting::CutLine;
-use crate::form::Form;
+use crate::read_line::ReadLine;
 use crate::words::Words;
 
 /// All that is behind so many words, as one text.
-fn text_after<'a>(mut words: Words<'a>, count: usize) -> &'a [u8]
+pub fn text_after<'a>(mut words: Words<'a>, count: usize) -> &'a [u8]
     ensures { result.now ≡ join_with_byte 32 (drop count words.entry) }
 {
     for _ in 0..count {
@@ -20,14 +18,6 @@ fn text_after<'a>(mut words: Words<'a>, count: usize) -> &'a [u8]
         };
     }
     words.text()
-}
-
-/// The text behind the numbers of a line, with all its spaces.
-pub fn text_behind<'a>(line: &CutLine<'a>, form: &Form) -> &'a [u8]
-    requires { form.now ≡ form_of line.now.keyword }
-    ensures { result.now ≡ text_of line.now }
-{
-    text_after(line.words.again(), form.numbers.len())
 }
 
 fn are_printable(text: &[u8]) -> bool
@@ -44,12 +34,11 @@ fn is_bad_text(text: &[u8], most: usize) -> bool
 }
 
 /// Whether the text of a line is too long, or not all of it can be printed.
-pub fn has_bad_text(line: &CutLine<'_>, form: &Form) -> bool
-    requires { form.now ≡ form_of line.now.keyword }
+pub fn has_bad_text(line: &ReadLine<'_>) -> bool
     ensures { (before : List Line) → result ≡ has_bad_text before line.now }
 {
-    match form.text {
-        Some(most) => is_bad_text(text_behind(line, form), most),
+    match line.most_text() {
+        Some(most) => is_bad_text(line.text(), most),
         None => false,
     }
 }

@@ -5,5 +5,6 @@ use Rattle.sv_workload.proofs.Capping.{turn_numbers}
 use Rattle.sv_workload.proofs.making.action.Goals as goal
 
 pub returns : goal.returns
-returns c = λ line word fit low numbers.
-    c.turn.ensures ∙ ap (λ (k : Keyword). action_by k c.args.numbers.now) (sym word) ∙ ap (λ (ns : List ℕ). action_by line.keyword ns) (numbers ∙ turn_numbers line c.args.word word fit low)
+returns c = λ word fit low.
+    let line = c.args.line.now in
+    c.turn.ensures ∙ ap (λ (k : Keyword). action_by k c.numbers.result.now) (sym word) ∙ ap (λ (ns : List ℕ). action_by line.keyword ns) (c.numbers.ensures ∙ turn_numbers line c.args.word word fit low)

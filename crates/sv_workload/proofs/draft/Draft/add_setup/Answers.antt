@@ -26,7 +26,7 @@ add_task-requires-clause-name c =
     let line = c.args.line.now in
     let e = c.requires.keyword ∙ ap Setup c.in-Task.is in
     let fit = fit_of good.0 line (passes good.0 line good.2) in
-    let task : c.in_ok-task-in-Task.task ≡ task_of line = c.in_ok-task-in-Task.ensures line e fit c.requires.numbers c.text_behind.ensures in
+    let task : c.in_ok-task-in-Task.task ≡ task_of line = c.in_ok-task-in-Task.ensures e fit in
     let short : length (text_of line) ≤ 32 = text_most line (Setup setup.Task) 32 e refl fit in
     let some : 1 ≤ length (text_of line) = task_named line e fit in
     (omega (arith, some, ap (λ (t : Task). length t.name) task), omega (arith, short, ap (λ (t : Task). length t.name) task))
@@ -36,7 +36,7 @@ add_setting-requires c =
     let good = c.requires.good in
     let line = c.args.line.now in
     let told_now = tells line (fit_of good.0 line (passes good.0 line good.2)) c.args.word c.requires.keyword c.requires.known c.in_default.not-Task in
-    subst (λ (n : ℕ). list_all (λ range. is_in range n) (form_of (Setup c.args.word)).numbers ≡ true) (sym (c.first_number.ensures line c.requires.numbers)) told_now.range
+    subst (λ (n : ℕ). list_all (λ range. is_in range n) (form_of (Setup c.args.word)).numbers ≡ true) (sym c.first_number.ensures) told_now.range
 
 pub returns-in_ok-task-in-Task : goal.returns-in_ok-task-in-Task
 returns-in_ok-task-in-Task c =
@@ -44,12 +44,12 @@ returns-in_ok-task-in-Task c =
     let e = c.requires.keyword ∙ ap Setup c.in-Task.is in
     on_ok_weaker c.add_task.result (λ now lines stands none.
     let passed = passes lines line none in
-    let task : c.in_ok-task-in-Task.task ≡ task_of line = c.in_ok-task-in-Task.ensures line e (fit_of lines line passed) c.requires.numbers c.text_behind.ensures in
+    let task : c.in_ok-task-in-Task.task ≡ task_of line = c.in_ok-task-in-Task.ensures e (fit_of lines line passed) in
     let new : c.add_task.new.self ≡ record c.args.self.now { tasks = c.args.self.now.tasks ++ task_of line ∷ [] } = now ∙ ap (λ (t : Task). record c.args.self.now { tasks = c.args.self.now.tasks ++ t ∷ [] }) task in
     subst (λ (d : Draft). Stands d (lines ++ line ∷ [])) (sym new) (stands-task c.args.self.now lines line stands passed e)) c.add_task.ensures
 
 pub returns-in_default : goal.returns-in_default
 returns-in_default c = λ lines stands none.
     let line = c.args.line.now in
-    let new = c.add_setting.ensures ∙ ap (λ (n : ℕ). record c.args.self.now { settings = tell c.args.word n c.args.self.now.settings }) (c.first_number.ensures line c.requires.numbers) in
+    let new = c.add_setting.ensures ∙ ap (λ (n : ℕ). record c.args.self.now { settings = tell c.args.word n c.args.self.now.settings }) c.first_number.ensures in
     subst (λ (d : Draft). Stands d (lines ++ line ∷ [])) (sym new) (told c.args.self.now lines line stands (passes lines line none) c.args.word c.requires.keyword c.requires.known c.in_default.not-Task)

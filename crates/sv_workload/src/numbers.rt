@@ -5,7 +5,7 @@ ghost use Rattle.sv_workload.specs.Forms.{form_of};
 ghost use Rattle.sv_workload.specs.Words.{number_of};
 ghost use Rattle.sv_workload.specs.Numbers.{capped};
 
-use crate::cutting::CutLine;
+use crate::cut_line::CutLine;
 use crate::form::Form;
 use crate::number::capped_number;
 use crate::words::Words;

@@ -6,11 +6,11 @@ ghost use Rattle.sv_workload.specs.Meaning.{number};
 ghost use Rattle.sv_workload.specs.Numbers.{capped};
 ghost use Rattle.sv_workload.specs.Words.{number_of};
 
-use crate::cutting::{CutLine, cut_into_words};
+use crate::cut_line::{CutLine, cut_into_words};
 use crate::form::{Form, form_of};
 use crate::keyword::Keyword;
+use crate::line_text::text_after;
 use crate::numbers::{number_or, numbers_of};
-use crate::texting::text_after;
 use crate::words::Words;
 use arrayvec::ArrayVec;
 use std::marker::Model;

@@ -1,6 +1,7 @@
 -- What one more line changes in a draft, by its keyword.
-use Rattle.std.proofs.Common.{◌≡◌, ℕ, ◌+◌, ◌<◌, Bool, true, false, cond, ◌||◌, ◌&&◌, not, List, [], ◌∷◌, ◌++◌, length, Option, Some, None, refl, sym, ap, subst, ◌∙◌, nat_lt, arith, rules}
+use Rattle.std.proofs.Common.{◌≡◌, ℕ, ◌+◌, ◌<◌, Bool, true, false, cond, ◌||◌, ◌&&◌, not, List, [], ◌∷◌, ◌++◌, length, Option, Some, None, ◌==◌, refl, sym, ap, subst, ◌∙◌, nat_lt, arith, rules}
 use Rattle.std.specs.Prelude.{filter, filter_map, find, option_map}
+use Rattle.std.specs.List.{list_any}
 use Rattle.std.specs.Option.{option_or}
 use Rattle.std.proofs.lemmas.List.{append-nil, nil_from_length}
 use Rattle.std.proofs.lemmas.List.Elements.{filter_map-append}
@@ -25,10 +26,11 @@ use Rattle.sv_workload.specs.Need.{one_if, is_start_act}
 use Rattle.sv_workload.specs.Settings.{tell}
 use Rattle.sv_workload.specs.Scripts.{onto_last, over_scripts}
 use Rattle.sv_workload.specs.Meaning.{says, count, is_there, number, told, task_of, tasks_of, action_of, act_of, with_shrunk, step_by, step_of, scripts_of, base_of, shift_of}
-use Rattle.sv_workload.specs.Checks.{count_of, is_step, sets_identifiers}
+use Rattle.sv_workload.specs.Checks.{count_of, is_step, sets_identifiers, single_keywords}
 use Rattle.sv_workload.specs.Draft.{Draft, Stands, settings_of, is_later}
 use Rattle.sv_workload.proofs.OneMore.{counted_more, told_more, tasks_more, there_more, parts_by, parts_begin, parts_same, parts_go_on, over_last, over_begun}
 use Rattle.sv_workload.proofs.Passed.{Passes}
+use Rattle.sv_workload.proofs.Ranged.{TellsOne}
 use Rattle.sv_workload.proofs.Standing.{scripts_count}
 
 -- the keyword tells no setting
@@ -176,6 +178,10 @@ pub neither : (a b : Bool) → (a || b) ≡ false → a ≡ false
 neither true b e = cc
 neither false b e = refl
 
+unsaid_by : (single there other : Bool) → single ≡ true → ((single && there) || other) ≡ false → there ≡ false
+unsaid_by true there other e f = neither there other f
+unsaid_by false there other e f = cc
+
 or_true : (b : Bool) → (b || true) ≡ true
 or_true true = refl
 or_true false = refl
@@ -215,95 +221,36 @@ module _ (old : Draft) (lines : List Line) (line : Line) (stands : Stands old li
       stands.scripts ∙ no_scripts lines none
       ∙ sym (no_scripts (lines ++ line ∷ []) (there_more keyword.Writer lines line ∙ rw (none, other) refl))
 
-  pub stands-ring : line.keyword ≡ keyword.Setup Ring → Stands (record old { settings = tell Ring (number line 0) old.settings }) (lines ++ line ∷ [])
-  stands-ring e =
-      let unsaid : is_there (keyword.Setup Ring) lines ≡ false = neither (is_there (keyword.Setup Ring) lines) false (rw e at passed.single) in
-      let now : told Ring (lines ++ line ∷ []) ≡ Some (number line 0) = told_now lines line Ring (rw e refl) (untold Ring lines unsaid) in
-      let clock : told Clock (lines ++ line ∷ []) ≡ told Clock lines = told_same lines line Clock (rw e refl) in
-      let cpu : told Cpu (lines ++ line ∷ []) ≡ told Cpu lines = told_same lines line Cpu (rw e refl) in
-      let base : told Base (lines ++ line ∷ []) ≡ told Base lines = told_same lines line Base (rw e refl) in
-      let shift : told Shift (lines ++ line ∷ []) ≡ told Shift lines = told_same lines line Shift (rw e refl) in
-      let told : tell Ring (number line 0) (settings_of lines) ≡ settings_of (lines ++ line ∷ []) = cc in
-      let steps : count_of is_step (line ∷ []) ≡ 0 = rw e refl in
-      let starts : count (keyword.Act Start) (line ∷ []) ≡ 0 = rw e refl in
-      more old (record old { settings = tell Ring (number line 0) old.settings }) lines line stands
-      (ap (tell Ring (number line 0)) stands.settings ∙ told)
-      (rw e (sym (append-nil old.tasks)))
-      (still_none (no_writer Ring e) (rw e refl))
-      (omega (arith, steps)) (omega (arith, starts))
-      (rw e (or_false old.scheduled)) (rw e (sym (append-nil old.schedule))) (rw e refl)
+  -- what one more setting makes of those before it
+  settings_with : (word : SetupWord) → TellsOne word → line.keyword ≡ keyword.Setup word → told word (lines ++ line ∷ []) ≡ Some (number line 0) → tell word (number line 0) (settings_of lines) ≡ settings_of (lines ++ line ∷ [])
+  settings_with word is e now = by word is now (λ other is_other. told_same lines line other (subst (λ (k : Keyword). is_same (keyword.Setup other) k ≡ false) (sym e) is_other))
+    where
+      by : (word : SetupWord) → TellsOne word → told word (lines ++ line ∷ []) ≡ Some (number line 0)
+          → ((other : SetupWord) → is_same (keyword.Setup other) (keyword.Setup word) ≡ false → told other (lines ++ line ∷ []) ≡ told other lines)
+          → tell word (number line 0) (settings_of lines) ≡ settings_of (lines ++ line ∷ [])
+      by Ring is now same = let a = same Clock refl in let b = same Cpu refl in let c = same Base refl in let d = same Shift refl in cc
+      by Clock is now same = let a = same Ring refl in let b = same Cpu refl in let c = same Base refl in let d = same Shift refl in cc
+      by Cpu is now same = let a = same Ring refl in let b = same Clock refl in let c = same Base refl in let d = same Shift refl in cc
+      by Base is now same = let a = same Ring refl in let b = same Clock refl in let c = same Cpu refl in let d = same Shift refl in cc
+      by Shift is now same = let a = same Ring refl in let b = same Clock refl in let c = same Cpu refl in let d = same Base refl in cc
+      by setup.Time is now same = absurd (let later : true ≡ false = is.now in cc)
+      by setup.Desc is now same = absurd (let later : true ≡ false = is.now in cc)
+      by setup.Module is now same = absurd (let later : true ≡ false = is.now in cc)
+      by setup.Command is now same = absurd (let later : true ≡ false = is.now in cc)
+      by setup.Task is now same = absurd (let task : true ≡ false = is.task in cc)
 
-  pub stands-clock : line.keyword ≡ keyword.Setup Clock → Stands (record old { settings = tell Clock (number line 0) old.settings }) (lines ++ line ∷ [])
-  stands-clock e =
-      let unsaid : is_there (keyword.Setup Clock) lines ≡ false = neither (is_there (keyword.Setup Clock) lines) false (rw e at passed.single) in
-      let now : told Clock (lines ++ line ∷ []) ≡ Some (number line 0) = told_now lines line Clock (rw e refl) (untold Clock lines unsaid) in
-      let ring : told Ring (lines ++ line ∷ []) ≡ told Ring lines = told_same lines line Ring (rw e refl) in
-      let cpu : told Cpu (lines ++ line ∷ []) ≡ told Cpu lines = told_same lines line Cpu (rw e refl) in
-      let base : told Base (lines ++ line ∷ []) ≡ told Base lines = told_same lines line Base (rw e refl) in
-      let shift : told Shift (lines ++ line ∷ []) ≡ told Shift lines = told_same lines line Shift (rw e refl) in
-      let told : tell Clock (number line 0) (settings_of lines) ≡ settings_of (lines ++ line ∷ []) = cc in
+  pub stands-setting : (word : SetupWord) → TellsOne word → line.keyword ≡ keyword.Setup word → Stands (record old { settings = tell word (number line 0) old.settings }) (lines ++ line ∷ [])
+  stands-setting word is e =
+      let unsaid : is_there (keyword.Setup word) lines ≡ false = unsaid_by (list_any (is_same (keyword.Setup word)) single_keywords) (is_there (keyword.Setup word) lines) _ is.single (subst (λ (k : Keyword). ((list_any (is_same k) single_keywords && is_there k lines) || (is_same (keyword.Setup setup.Task) k && list_any (λ task. task.id == number line 0) (tasks_of lines))) ≡ false) e passed.single) in
+      let now : told word (lines ++ line ∷ []) ≡ Some (number line 0) = told_now lines line word (subst (λ (k : Keyword). is_same (keyword.Setup word) k ≡ true) (sym e) is.itself) (untold word lines unsaid) in
       let steps : count_of is_step (line ∷ []) ≡ 0 = rw e refl in
-      let starts : count (keyword.Act Start) (line ∷ []) ≡ 0 = rw e refl in
-      more old (record old { settings = tell Clock (number line 0) old.settings }) lines line stands
-      (ap (tell Clock (number line 0)) stands.settings ∙ told)
-      (rw e (sym (append-nil old.tasks)))
-      (still_none (no_writer Clock e) (rw e refl))
+      let starts : count (keyword.Act Start) (line ∷ []) ≡ 0 = rw (e, is.start) refl in
+      more old (record old { settings = tell word (number line 0) old.settings }) lines line stands
+      (ap (tell word (number line 0)) stands.settings ∙ settings_with word is e now)
+      (rw (e, is.task) (sym (append-nil old.tasks)))
+      (still_none (no_writer word e) (rw (e, is.writer) refl))
       (omega (arith, steps)) (omega (arith, starts))
-      (rw e (or_false old.scheduled)) (rw e (sym (append-nil old.schedule))) (rw e refl)
-
-  pub stands-cpu : line.keyword ≡ keyword.Setup Cpu → Stands (record old { settings = tell Cpu (number line 0) old.settings }) (lines ++ line ∷ [])
-  stands-cpu e =
-      let unsaid : is_there (keyword.Setup Cpu) lines ≡ false = neither (is_there (keyword.Setup Cpu) lines) false (rw e at passed.single) in
-      let now : told Cpu (lines ++ line ∷ []) ≡ Some (number line 0) = told_now lines line Cpu (rw e refl) (untold Cpu lines unsaid) in
-      let ring : told Ring (lines ++ line ∷ []) ≡ told Ring lines = told_same lines line Ring (rw e refl) in
-      let clock : told Clock (lines ++ line ∷ []) ≡ told Clock lines = told_same lines line Clock (rw e refl) in
-      let base : told Base (lines ++ line ∷ []) ≡ told Base lines = told_same lines line Base (rw e refl) in
-      let shift : told Shift (lines ++ line ∷ []) ≡ told Shift lines = told_same lines line Shift (rw e refl) in
-      let told : tell Cpu (number line 0) (settings_of lines) ≡ settings_of (lines ++ line ∷ []) = cc in
-      let steps : count_of is_step (line ∷ []) ≡ 0 = rw e refl in
-      let starts : count (keyword.Act Start) (line ∷ []) ≡ 0 = rw e refl in
-      more old (record old { settings = tell Cpu (number line 0) old.settings }) lines line stands
-      (ap (tell Cpu (number line 0)) stands.settings ∙ told)
-      (rw e (sym (append-nil old.tasks)))
-      (still_none (no_writer Cpu e) (rw e refl))
-      (omega (arith, steps)) (omega (arith, starts))
-      (rw e (or_false old.scheduled)) (rw e (sym (append-nil old.schedule))) (rw e refl)
-
-  pub stands-base : line.keyword ≡ keyword.Setup Base → Stands (record old { settings = tell Base (number line 0) old.settings }) (lines ++ line ∷ [])
-  stands-base e =
-      let unsaid : is_there (keyword.Setup Base) lines ≡ false = neither (is_there (keyword.Setup Base) lines) false (rw e at passed.single) in
-      let now : told Base (lines ++ line ∷ []) ≡ Some (number line 0) = told_now lines line Base (rw e refl) (untold Base lines unsaid) in
-      let ring : told Ring (lines ++ line ∷ []) ≡ told Ring lines = told_same lines line Ring (rw e refl) in
-      let clock : told Clock (lines ++ line ∷ []) ≡ told Clock lines = told_same lines line Clock (rw e refl) in
-      let cpu : told Cpu (lines ++ line ∷ []) ≡ told Cpu lines = told_same lines line Cpu (rw e refl) in
-      let shift : told Shift (lines ++ line ∷ []) ≡ told Shift lines = told_same lines line Shift (rw e refl) in
-      let told : tell Base (number line 0) (settings_of lines) ≡ settings_of (lines ++ line ∷ []) = cc in
-      let steps : count_of is_step (line ∷ []) ≡ 0 = rw e refl in
-      let starts : count (keyword.Act Start) (line ∷ []) ≡ 0 = rw e refl in
-      more old (record old { settings = tell Base (number line 0) old.settings }) lines line stands
-      (ap (tell Base (number line 0)) stands.settings ∙ told)
-      (rw e (sym (append-nil old.tasks)))
-      (still_none (no_writer Base e) (rw e refl))
-      (omega (arith, steps)) (omega (arith, starts))
-      (rw e (or_false old.scheduled)) (rw e (sym (append-nil old.schedule))) (rw e refl)
-
-  pub stands-shift : line.keyword ≡ keyword.Setup Shift → Stands (record old { settings = tell Shift (number line 0) old.settings }) (lines ++ line ∷ [])
-  stands-shift e =
-      let unsaid : is_there (keyword.Setup Shift) lines ≡ false = neither (is_there (keyword.Setup Shift) lines) false (rw e at passed.single) in
-      let now : told Shift (lines ++ line ∷ []) ≡ Some (number line 0) = told_now lines line Shift (rw e refl) (untold Shift lines unsaid) in
-      let ring : told Ring (lines ++ line ∷ []) ≡ told Ring lines = told_same lines line Ring (rw e refl) in
-      let clock : told Clock (lines ++ line ∷ []) ≡ told Clock lines = told_same lines line Clock (rw e refl) in
-      let cpu : told Cpu (lines ++ line ∷ []) ≡ told Cpu lines = told_same lines line Cpu (rw e refl) in
-      let base : told Base (lines ++ line ∷ []) ≡ told Base lines = told_same lines line Base (rw e refl) in
-      let told : tell Shift (number line 0) (settings_of lines) ≡ settings_of (lines ++ line ∷ []) = cc in
-      let steps : count_of is_step (line ∷ []) ≡ 0 = rw e refl in
-      let starts : count (keyword.Act Start) (line ∷ []) ≡ 0 = rw e refl in
-      more old (record old { settings = tell Shift (number line 0) old.settings }) lines line stands
-      (ap (tell Shift (number line 0)) stands.settings ∙ told)
-      (rw e (sym (append-nil old.tasks)))
-      (still_none (no_writer Shift e) (rw e refl))
-      (omega (arith, steps)) (omega (arith, starts))
-      (rw e (or_false old.scheduled)) (rw e (sym (append-nil old.schedule))) (rw e refl)
+      (rw (e, is.schedule) (or_false old.scheduled)) (rw e (sym (append-nil old.schedule))) (rw e is.now)
 
   pub stands-task : line.keyword ≡ keyword.Setup setup.Task → Stands (record old { tasks = old.tasks ++ task_of line ∷ [] }) (lines ++ line ∷ [])
   stands-task e =

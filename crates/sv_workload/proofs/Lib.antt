@@ -7,6 +7,7 @@ pub mod FirstFault
 pub mod FirstLine
 pub mod Numerals
 pub mod Ranges
+pub mod Ranged
 pub mod Scripted
 pub mod Searched
 pub mod Shapes

@@ -1,6 +1,6 @@
 -- What a draft may take, since the line has no fault, and what it then stands for.
-use Rattle.std.proofs.Common.{◌≡◌, ℕ, ◌<◌, ◌≤◌, ◌-◌, ◌^◌, Bool, true, false, ◌||◌, ◌&&◌, not, List, [], ◌∷◌, ◌++◌, length, map, take, get_or, Option, Some, None, refl, sym, ap, subst, ◌∙◌, nat_le, arith}
-use Rattle.std.specs.List.{list_all}
+use Rattle.std.proofs.Common.{◌≡◌, ℕ, ◌+◌, ◌<◌, ◌≤◌, ◌-◌, ◌^◌, cond, drop, Bool, true, false, ◌||◌, ◌&&◌, not, List, [], ◌∷◌, ◌++◌, length, map, take, get_or, Option, Some, None, refl, sym, ap, subst, ◌∙◌, nat_le, arith}
+use Rattle.std.specs.List.{list_all, join_with_byte}
 use Rattle.std.specs.Option.{option_map_or}
 use Rattle.std.proofs.lemmas.Bool.{and_parts, leb-true, leb-false}
 use Rattle.sv_workload.specs.declared.load.Step.{Step}
@@ -15,7 +15,7 @@ use Rattle.sv_workload.specs.declared.keyword.TurnWord.TheVariants as turn
 use Rattle.sv_workload.specs.declared.keyword.Keyword.{Keyword}
 use Rattle.sv_workload.specs.declared.keyword.Keyword.TheVariants as keyword
 use Rattle.sv_workload.specs.Keywords.{is_same}
-use Rattle.sv_workload.specs.Forms.{between, is_in, form_of}
+use Rattle.sv_workload.specs.Forms.{Form, between, numbers, is_in, form_of}
 use Rattle.sv_workload.specs.Words.{number_of}
 use Rattle.sv_workload.specs.Numbers.{capped}
 use Rattle.sv_workload.specs.Line.{Line, numbers_of, text_of}
@@ -24,12 +24,13 @@ use Rattle.sv_workload.specs.Settings.{tell, base_told, shift_told}
 use Rattle.sv_workload.specs.Scripts.{over_scripts}
 use Rattle.sv_workload.specs.Fit.{IsFit}
 use Rattle.sv_workload.specs.Meaning.{says, count, number, act_of, with_shrunk, step_by, base_of, shift_of}
-use Rattle.sv_workload.specs.Checks.{count_of, is_step, is_turn, is_all_there, is_within, are_within}
+use Rattle.sv_workload.specs.Checks.{count_of, is_step, is_turn, is_all_there, is_within, are_within, fits, fits_command}
 use Rattle.sv_workload.specs.Draft.{Draft, Stands, is_later}
 use Rattle.sv_workload.proofs.Capping.{number_or_0, numbers_behind, capped_low, in_ranges}
 use Rattle.sv_workload.proofs.Passed.{Passes}
+use Rattle.sv_workload.proofs.Ranged.{TellsOne}
 use Rattle.sv_workload.proofs.Standing.{tasks_count, scripts_count, turns_count}
-use Rattle.sv_workload.proofs.Growing.{neither, start_word, stands-ring, stands-clock, stands-cpu, stands-base, stands-shift}
+use Rattle.sv_workload.proofs.Growing.{neither, start_word, stands-setting}
 
 pub fit_of : (lines : List Line) (line : Line) → Passes lines line → IsFit line
 fit_of lines line passed = record { shape = passed.shaped; numbers = passed.numbers; text = passed.text }
@@ -124,76 +125,25 @@ pub record Tells (line : Line) (word : SetupWord) : Type 0 where
   pub range : list_all (λ range. is_in range (capped (number line 0))) (form_of (keyword.Setup word)).numbers ≡ true
   pub same : capped (number line 0) ≡ number line 0
 
-module _ (line : Line) (fit : IsFit line) where
-  tells-ring : line.keyword ≡ keyword.Setup Ring → Tells line Ring
-  tells-ring e =
-      let filled : nat_le 1 (length line.words) ≡ true = first_and _ _ _ (rw e at fit.shape) in
-      let inside : is_in (between 64 65536) (number line 0) ≡ true =
-      subst (λ (k : Keyword). is_in (between 64 65536) (get_or (numbers_behind k line.words) 0 0) ≡ true) (sym e) (one_in (between 64 65536) line.words filled (in_ranges line (keyword.Setup Ring) e fit)) in
-      let same : capped (number line 0) ≡ number line 0 = capped_low (number line 0) (low_in 64 65536 (number line 0) refl inside) in
-      record { range = rw (same, inside) refl; same = same }
-
-  tells-clock : line.keyword ≡ keyword.Setup Clock → Tells line Clock
-  tells-clock e =
-      let filled : nat_le 1 (length line.words) ≡ true = first_and _ _ _ (rw e at fit.shape) in
-      let inside : is_in (between 1 4294967295) (number line 0) ≡ true =
-      subst (λ (k : Keyword). is_in (between 1 4294967295) (get_or (numbers_behind k line.words) 0 0) ≡ true) (sym e) (one_in (between 1 4294967295) line.words filled (in_ranges line (keyword.Setup Clock) e fit)) in
-      let same : capped (number line 0) ≡ number line 0 = capped_low (number line 0) (low_in 1 4294967295 (number line 0) refl inside) in
-      record { range = rw (same, inside) refl; same = same }
-
-  tells-cpu : line.keyword ≡ keyword.Setup Cpu → Tells line Cpu
-  tells-cpu e =
-      let filled : nat_le 1 (length line.words) ≡ true = first_and _ _ _ (rw e at fit.shape) in
-      let inside : is_in (between 1 4294967295) (number line 0) ≡ true =
-      subst (λ (k : Keyword). is_in (between 1 4294967295) (get_or (numbers_behind k line.words) 0 0) ≡ true) (sym e) (one_in (between 1 4294967295) line.words filled (in_ranges line (keyword.Setup Cpu) e fit)) in
-      let same : capped (number line 0) ≡ number line 0 = capped_low (number line 0) (low_in 1 4294967295 (number line 0) refl inside) in
-      record { range = rw (same, inside) refl; same = same }
-
-  tells-base : line.keyword ≡ keyword.Setup Base → Tells line Base
-  tells-base e =
-      let filled : nat_le 1 (length line.words) ≡ true = first_and _ _ _ (rw e at fit.shape) in
-      let inside : is_in (between 0 4294967295) (number line 0) ≡ true =
-      subst (λ (k : Keyword). is_in (between 0 4294967295) (get_or (numbers_behind k line.words) 0 0) ≡ true) (sym e) (one_in (between 0 4294967295) line.words filled (in_ranges line (keyword.Setup Base) e fit)) in
-      let same : capped (number line 0) ≡ number line 0 = capped_low (number line 0) (low_in 0 4294967295 (number line 0) refl inside) in
-      record { range = rw (same, inside) refl; same = same }
-
-  tells-shift : line.keyword ≡ keyword.Setup Shift → Tells line Shift
-  tells-shift e =
-      let filled : nat_le 1 (length line.words) ≡ true = first_and _ _ _ (rw e at fit.shape) in
-      let inside : is_in (between 0 31) (number line 0) ≡ true =
-      subst (λ (k : Keyword). is_in (between 0 31) (get_or (numbers_behind k line.words) 0 0) ≡ true) (sym e) (one_in (between 0 31) line.words filled (in_ranges line (keyword.Setup Shift) e fit)) in
-      let same : capped (number line 0) ≡ number line 0 = capped_low (number line 0) (low_in 0 31 (number line 0) refl inside) in
-      record { range = rw (same, inside) refl; same = same }
-
-  pub tells : (word : SetupWord) → line.keyword ≡ keyword.Setup word → is_later line.keyword ≡ false → (word ≡ setup.Task → ⊥) → Tells line word
-  tells Ring e now other = tells-ring e
-  tells Clock e now other = tells-clock e
-  tells Cpu e now other = tells-cpu e
-  tells Base e now other = tells-base e
-  tells Shift e now other = tells-shift e
-  tells setup.Task e now other = absurd (other refl)
-  tells Time e now other = absurd (let l : true ≡ false = (rw e at now) in cc)
-  tells Desc e now other = absurd (let l : true ≡ false = (rw e at now) in cc)
-  tells Module e now other = absurd (let l : true ≡ false = (rw e at now) in cc)
-  tells Command e now other = absurd (let l : true ≡ false = (rw e at now) in cc)
+pub tells : (line : Line) (word : SetupWord) → IsFit line → TellsOne word → line.keyword ≡ keyword.Setup word → Tells line word
+tells line word fit is e =
+    let range = between is.least is.most in
+    let shape = subst (λ (k : Keyword). not (cond (is_same (keyword.Setup Command) k) (fits_command line.words) (fits (form_of k) line.words (join_with_byte 32 (drop (length (form_of k).numbers) line.words)))) ≡ false) e fit.shape in
+    let fitting = subst (λ (b : Bool). not (cond b (fits_command line.words) (fits (form_of (keyword.Setup word)) line.words (join_with_byte 32 (drop (length (form_of (keyword.Setup word)).numbers) line.words)))) ≡ false) is.command shape in
+    let filled : nat_le 1 (length line.words) ≡ true = first_and _ _ _ (subst (λ (f : Form). not (fits f line.words (join_with_byte 32 (drop (length f.numbers) line.words))) ≡ false) is.form fitting) in
+    let within : are_within (range ∷ []) line.words ≡ true = subst (λ (f : Form). are_within (f.numbers ++ f.more) line.words ≡ true) is.form (in_ranges line (keyword.Setup word) e fit) in
+    let form : form_of line.keyword ≡ numbers (range ∷ []) = ap form_of e ∙ is.form in
+    let inside : is_in range (number line 0) ≡ true =
+    subst (λ (f : Form). is_in range (get_or (map number_or_0 (take (length f.numbers + length f.more) line.words)) 0 0) ≡ true) (sym form) (one_in range line.words filled within) in
+    let same : capped (number line 0) ≡ number line 0 = capped_low (number line 0) (low_in is.least is.most (number line 0) is.low inside) in
+    let kept : list_all (λ (r : Range). is_in r (capped (number line 0))) (range ∷ []) ≡ true = rw (same, inside) refl in
+    record { range = subst (λ (f : Form). list_all (λ (r : Range). is_in r (capped (number line 0))) f.numbers ≡ true) (sym is.form) kept; same = same }
 
 -- a draft with one more setting
 module _ (old : Draft) (lines : List Line) (line : Line) (stands : Stands old lines) (passed : Passes lines line) where
-  told_as : (word : SetupWord) → line.keyword ≡ keyword.Setup word → is_later line.keyword ≡ false → (word ≡ setup.Task → ⊥) → Stands (record old { settings = tell word (number line 0) old.settings }) (lines ++ line ∷ [])
-  told_as Ring e now other = stands-ring old lines line stands passed e
-  told_as Clock e now other = stands-clock old lines line stands passed e
-  told_as Cpu e now other = stands-cpu old lines line stands passed e
-  told_as Base e now other = stands-base old lines line stands passed e
-  told_as Shift e now other = stands-shift old lines line stands passed e
-  told_as setup.Task e now other = absurd (other refl)
-  told_as Time e now other = absurd (let l : true ≡ false = (rw e at now) in cc)
-  told_as Desc e now other = absurd (let l : true ≡ false = (rw e at now) in cc)
-  told_as Module e now other = absurd (let l : true ≡ false = (rw e at now) in cc)
-  told_as Command e now other = absurd (let l : true ≡ false = (rw e at now) in cc)
-
-  pub told : (word : SetupWord) → line.keyword ≡ keyword.Setup word → is_later line.keyword ≡ false → (word ≡ setup.Task → ⊥) → Stands (record old { settings = tell word (capped (number line 0)) old.settings }) (lines ++ line ∷ [])
-  told word e now other =
-      subst (λ (n : ℕ). Stands (record old { settings = tell word n old.settings }) (lines ++ line ∷ [])) (sym (tells line (fit_of lines line passed) word e now other).same) (told_as word e now other)
+  pub told : (word : SetupWord) → TellsOne word → line.keyword ≡ keyword.Setup word → Stands (record old { settings = tell word (capped (number line 0)) old.settings }) (lines ++ line ∷ [])
+  told word is e =
+      subst (λ (n : ℕ). Stands (record old { settings = tell word n old.settings }) (lines ++ line ∷ [])) (sym (tells line word (fit_of lines line passed) is e).same) (stands-setting old lines line stands passed word is e)
 
 second_false : (a b : Bool) → a ≡ true → (a && b) ≡ false → b ≡ false
 second_false true b t e = e

@@ -9,7 +9,6 @@ use Rattle.sv_workload.specs.declared.load.Task.{Task}
 use Rattle.sv_workload.specs.declared.load.Action.{Action}
 use Rattle.sv_workload.specs.declared.load.Action.TheVariants as actions
 use Rattle.sv_workload.specs.declared.load.Command.{Command}
-use Rattle.sv_workload.specs.declared.load.ModuleRow.{ModuleRow}
 use Rattle.sv_workload.specs.Load.{Load, is_break, offset_after}
 
 abbrev pub is_start_act : Act → Bool

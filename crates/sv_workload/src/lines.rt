@@ -1,6 +1,6 @@
 //! Lines, cut at the line feeds of a text.
 ghost use Rattle.std.specs.Prelude.{◌≡◌, ◌<◌, ◌==◌, length, position};
-ghost use Rattle.sv_workload.specs.Lines.{IsNext};
+ghost use Rattle.sv_workload.specs.Lines.{IsNext, is_remark};
 
 use memchr::memchr;
 
@@ -19,5 +19,15 @@ pub fn first_line(text: &[u8]) -> (&[u8], &[u8])
     match line_end(text) {
         Some(place) => (&text[..place], &text[place + 1..]),
         None => (text, &text[text.len()..]),
+    }
+}
+
+/// Whether a line is for the reader alone.
+pub fn is_remark(line: &[u8]) -> bool
+    ensures { result ≡ is_remark line.now }
+{
+    match line.first() {
+        Some(byte) => *byte == b';',
+        None => true,
     }
 }

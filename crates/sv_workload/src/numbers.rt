@@ -1,12 +1,11 @@
 //! The numbers of a line.
 ghost use Rattle.std.specs.Prelude.{◌≡◌, ◌+◌, ◌++◌, ◌≤◌, take, map, length, unwrap_or, slice_index_or};
-ghost use Rattle.sv_workload.specs.Line.{Line, numbers_of};
+ghost use Rattle.sv_workload.specs.Line.{numbers_of};
 ghost use Rattle.sv_workload.specs.Forms.{form_of};
 ghost use Rattle.sv_workload.specs.Words.{number_of};
 ghost use Rattle.sv_workload.specs.Numbers.{capped};
-ghost use Rattle.sv_workload.specs.Meaning.{number};
 
-use crate::cutting::CutLine;
+use crate::cut_line::CutLine;
 use crate::form::Form;
 use crate::number::capped_number;
 use crate::words::Words;
@@ -53,12 +52,4 @@ pub fn number_or(numbers: &[u32], place: usize, default: u32) -> u32
         Some(number) => *number,
         None => default,
     }
-}
-
-/// The first number of a line, by its numbers. One above the greatest `u32` counts as that one, and
-/// a line without numbers has 0.
-pub fn first_number(numbers: &[u32]) -> u32
-    ensures { (line : Line) → numbers.now ≡ map capped (numbers_of line) → result ≡ capped (number line 0) }
-{
-    number_or(numbers, 0, 0)
 }

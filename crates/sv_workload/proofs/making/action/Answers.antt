@@ -1,9 +1,0 @@
-use Rattle.std.proofs.Common.{ℕ, List, sym, ap, ◌∙◌}
-use Rattle.sv_workload.specs.declared.keyword.Keyword.{Keyword}
-use Rattle.sv_workload.specs.Meaning.{action_by}
-use Rattle.sv_workload.proofs.Capping.{turn_numbers}
-use Rattle.sv_workload.proofs.making.action.Goals as goal
-
-pub returns : goal.returns
-returns c = λ line word fit low numbers.
-    c.turn.ensures ∙ ap (λ (k : Keyword). action_by k c.args.numbers.now) (sym word) ∙ ap (λ (ns : List ℕ). action_by line.keyword ns) (numbers ∙ turn_numbers line c.args.word word fit low)

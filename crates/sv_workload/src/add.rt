@@ -1,0 +1,138 @@
+//! What a line without a fault adds to a draft.
+ghost use Rattle.std.specs.Prelude.{◌≡◌, ◌≤◌, ◌<◌, ◌∷◌, ◌++◌, [], true, false, length, map, OnOk};
+ghost use Rattle.std.specs.List.{list_all};
+ghost use Rattle.sv_workload.specs.declared.keyword.Keyword.{Keyword};
+ghost use Rattle.sv_workload.specs.declared.keyword.Keyword.TheVariants.{Setup, Act, Turn};
+ghost use Rattle.sv_workload.specs.Forms.{is_in, form_of};
+ghost use Rattle.sv_workload.specs.Need.{one_if, is_start_act, IsStepAct, IsTask, IsTurn};
+ghost use Rattle.sv_workload.specs.Settings.{tell};
+ghost use Rattle.sv_workload.specs.Scripts.{onto_last, over_scripts};
+ghost use Rattle.sv_workload.specs.Draft.{IsGoodBehind, HasTaken, is_later};
+
+use crate::draft::Draft;
+use crate::keyword::{ActWord, Keyword, SetupWord};
+use crate::load::{Action, Step, Task};
+use crate::parts::{action, step, task};
+use crate::read_line::ReadLine;
+use std::alloc::Global;
+use sv_prim::NoMemory;
+
+impl Draft {
+    /// One more setting is told.
+    fn add_setting(&mut self, word: SetupWord, n: u32)
+        requires { list_all (λ range. is_in range n) (form_of (Setup word)).numbers ≡ true }
+        ensures { self.new ≡ record self.old { settings = tell word n self.old.settings } }
+    {
+        self.settings.tell(word, n);
+    }
+
+    /// One more task, behind the others.
+    fn add_task(&mut self, task: Task) -> Result<(), NoMemory>
+        requires few { length self.old.tasks < 32 }
+        requires name { IsTask task }
+        ensures { OnOk result (self.new ≡ record self.old { tasks = self.old.tasks ++ task ∷ [] }) }
+    {
+        if self.tasks.push(task).is_err() {
+            return Err(NoMemory);
+        }
+        Ok(())
+    }
+
+    /// One more writer, without a step so far.
+    fn add_writer(&mut self, alloc: Global) -> Result<(), NoMemory>
+        requires { length self.old.scripts < 16 }
+        ensures { OnOk result (self.new ≡ record self.old { scripts = self.old.scripts ++ [] ∷ [] }) }
+    {
+        self.scripts.open(alloc)
+    }
+
+    /// One more step for the writer that was named last.
+    fn add_step(&mut self, step: Step) -> Result<(), NoMemory>
+        requires writer { 0 < length self.old.scripts }
+        requires steps { over_scripts (λ s. 1) self.old.scripts < 1048576 }
+        requires starts { is_start_act step.act ≡ true → over_scripts (λ s. one_if (is_start_act s.act)) self.old.scripts < 256 }
+        requires advance { step.advance ≤ 8589934592 }
+        requires act { IsStepAct step.act }
+        ensures { OnOk result (self.new ≡ record self.old { scripts = onto_last step self.old.scripts }) }
+    {
+        self.scripts.push(step)
+    }
+
+    /// There is a schedule from now on.
+    fn add_schedule(&mut self)
+        ensures { self.new ≡ record self.old { scheduled = true } }
+    {
+        self.scheduled = true;
+    }
+
+    /// One more turn, behind the others.
+    fn add_turn(&mut self, action: Action) -> Result<(), NoMemory>
+        requires few { length self.old.schedule < 1048576 }
+        requires turn { IsTurn (length self.old.scripts) action }
+        ensures { OnOk result (self.new ≡ record self.old { schedule = self.old.schedule ++ action ∷ [] }) }
+    {
+        if self.schedule.push(action).is_err() {
+            return Err(NoMemory);
+        }
+        Ok(())
+    }
+
+    /// Adds what a line about the target or a task says.
+    fn add_setup(
+        &mut self,
+        alloc: Global,
+        line: &ReadLine<'_>,
+        word: SetupWord,
+    ) -> Result<(), NoMemory>
+        requires keyword { line.now.keyword ≡ Setup word }
+        requires known { is_later line.now.keyword ≡ false }
+        requires good { IsGoodBehind self.old line.now }
+        ensures { OnOk result (HasTaken self.old self.new line.now) }
+    {
+        match word {
+            SetupWord::Task => {
+                let task = task(alloc, line)?;
+                self.add_task(task)
+            }
+            _ => {
+                self.add_setting(word, line.first_number());
+                Ok(())
+            }
+        }
+    }
+
+    /// Adds a step to the writer that was named last.
+    fn add_act(&mut self, alloc: Global, line: &ReadLine<'_>, word: ActWord) -> Result<(), NoMemory>
+        requires keyword { line.now.keyword ≡ Act word }
+        requires good { IsGoodBehind self.old line.now }
+        ensures { OnOk result (HasTaken self.old self.new line.now) }
+    {
+        let base = self.settings.base();
+        let shift = self.settings.shift();
+        let step = step(alloc, line, word, base, shift)?;
+        self.add_step(step)
+    }
+
+    /// Adds what a line without a fault says. Memory is taken for what is kept of it alone.
+    pub fn add(&mut self, alloc: Global, line: &ReadLine<'_>) -> Result<(), NoMemory>
+        requires known { is_later line.now.keyword ≡ false }
+        requires good { IsGoodBehind self.old line.now }
+        ensures { OnOk result (HasTaken self.old self.new line.now) }
+    {
+        match line.keyword() {
+            Keyword::Setup(word) => self.add_setup(alloc, line, word),
+            Keyword::Writer => self.add_writer(alloc),
+            Keyword::Act(word) => self.add_act(alloc, line, word),
+            Keyword::Schedule => {
+                self.add_schedule();
+                Ok(())
+            }
+            Keyword::Turn(word) => {
+                // The draft's invariant says that there are few writers, so the turn's number is whole.
+                let _ = &self.schedule;
+                self.add_turn(action(line, word))
+            }
+            Keyword::Unknown => Ok(()),
+        }
+    }
+}

@@ -1,8 +1,8 @@
 -- The turns that lines of the schedule give away are of their ranges, and so are the steps of a script.
-use Rattle.std.proofs.Common.{◌≡◌, ℕ, ◌+◌, ◌<◌, ◌≤◌, Bool, true, false, ◌&&◌, List, [], ◌∷◌, length, map, take, get_or, Option, Some, None, refl, sym, ap, subst, ◌∙◌, nat_le, All, arith}
+use Rattle.std.proofs.Common.{◌≡◌, ℕ, ◌<◌, ◌≤◌, true, false, ◌&&◌, List, [], ◌∷◌, length, map, take, Option, Some, None, sym, ap, subst, ◌∙◌, nat_le, All, arith}
 use Rattle.std.specs.Prelude.{slice_index, slice_index_or, unwrap_or}
 use Rattle.std.specs.Option.{option_map_or}
-use Rattle.std.proofs.lemmas.Bool.{and_parts, leb-true, leb-false}
+use Rattle.std.proofs.lemmas.Bool.{and_parts, leb-true}
 use Rattle.std.proofs.lemmas.List.Elements.{All-weaker, All-get_or}
 use Rattle.sv_workload.specs.declared.load.Action.{Action}
 use Rattle.sv_workload.specs.declared.load.Action.TheVariants as actions
@@ -10,10 +10,10 @@ use Rattle.sv_workload.specs.declared.keyword.TurnWord.{TurnWord}
 use Rattle.sv_workload.specs.declared.keyword.TurnWord.TheVariants as turn
 use Rattle.sv_workload.specs.declared.keyword.Keyword.{Keyword}
 use Rattle.sv_workload.specs.declared.keyword.Keyword.TheVariants as keyword
-use Rattle.sv_workload.specs.Forms.{between, any, is_in}
+use Rattle.sv_workload.specs.Forms.{between, any}
 use Rattle.sv_workload.specs.Words.{number_of}
 use Rattle.sv_workload.specs.Line.{Line, numbers_of}
-use Rattle.sv_workload.specs.Meaning.{says, count, number, action_by, action_of}
+use Rattle.sv_workload.specs.Meaning.{count, number, action_by, action_of}
 use Rattle.sv_workload.specs.declared.load.Step.{Step}
 use Rattle.sv_workload.specs.Load.{Load, script_of}
 use Rattle.sv_workload.specs.Need.{IsTurn}

@@ -6,7 +6,7 @@ ghost use Rattle.sv_workload.specs.declared.keyword.Keyword.TheVariants.{Setup, 
 ghost use Rattle.sv_workload.specs.Forms.{is_in, form_of};
 ghost use Rattle.sv_workload.specs.Line.{numbers_of};
 ghost use Rattle.sv_workload.specs.Numbers.{capped};
-ghost use Rattle.sv_workload.specs.Need.{one_if, is_start_act, IsStepAct, IsTask, IsTurn};
+ghost use Rattle.sv_workload.specs.Need.{one_if, is_start_act, IsStepAct, IsTask, HasWords, IsTurn};
 ghost use Rattle.sv_workload.specs.Settings.{tell};
 ghost use Rattle.sv_workload.specs.Scripts.{onto_last, over_scripts};
 ghost use Rattle.sv_workload.specs.Draft.{IsGoodBehind, HasTaken, is_later};
@@ -35,6 +35,7 @@ impl Draft {
     fn add_task(&mut self, task: Task) -> Result<(), NoMemory>
         requires few { length self.old.tasks < 32 }
         requires name { IsTask task }
+        requires words { HasWords task }
         ensures { OnOk result (self.new ≡ record self.old { tasks = self.old.tasks ++ task ∷ [] }) }
     {
         if self.tasks.push(task).is_err() {

@@ -20,12 +20,12 @@ use Rattle.sv_workload.specs.Keywords.{is_same}
 use Rattle.sv_workload.specs.Forms.{between, is_in, form_of}
 use Rattle.sv_workload.specs.Line.{Line, numbers_of, text_of}
 use Rattle.sv_workload.specs.Checks.{fits, fits_command, is_word, is_printable, is_within, are_within}
-use Rattle.sv_workload.specs.Meaning.{act_of, with_shrunk, step_by}
-use Rattle.sv_workload.specs.Need.{IsStepAct}
+use Rattle.sv_workload.specs.Meaning.{act_of, task_of, with_shrunk, step_by}
+use Rattle.sv_workload.specs.Need.{HasWords, IsStepAct}
 use Rattle.sv_workload.specs.Numbers.{capped}
 use Rattle.sv_workload.specs.Fit.{IsFit}
-use Rattle.sv_workload.proofs.Capping.{ranges, number_or_0, numbers_behind, in_ranges, act_numbers}
-use Rattle.sv_workload.proofs.StepActs.{IsKeptTo, step_act, capped_words, shrunk_words, printable_bytes}
+use Rattle.sv_workload.proofs.Capping.{ranges, number_or_0, numbers_behind, in_ranges, act_numbers, task_numbers}
+use Rattle.sv_workload.proofs.StepActs.{IsKeptTo, step_act, word_at, capped_words, shrunk_words, printable_bytes}
 
 -- ---- ticks
 
@@ -62,7 +62,14 @@ task_named line e fit =
     let some : 0 < length (join_with_byte 32 (drop 5 line.words)) = ltb-true 0 (length (join_with_byte 32 (drop 5 line.words))) (and_parts (list_all is_word (take 5 line.words)) (is_word (join_with_byte 32 (drop 5 line.words))) shaped).1 in
     subst (λ (k : Keyword). 1 ≤ length (join_with_byte 32 (drop (length (form_of k).numbers) line.words))) (sym e) (omega (arith, some))
 
--- and it can be printed
+-- the numbers of a task are words
+pub task_words : (line : Line) → line.keyword ≡ keyword.Setup setup.Task → IsFit line → HasWords (task_of line)
+task_words line e fit =
+    let words : AreWords (numbers_of line) = subst AreWords (task_numbers line e fit) (capped_words (numbers_of line)) in
+    let at = λ (k : ℕ). word_at (numbers_of line) k words in
+    (at 0, (at 1, (at 2, (at 3, (at 4, tt)))))
+
+-- a text can be printed
 text_printable : (line : Line) (word : Keyword) (most : ℕ) → line.keyword ≡ word → (form_of word).text ≡ Some most → IsFit line → list_all is_printable (text_of line) ≡ true
 text_printable line word most e some fit =
     let text = text_of line in

@@ -12,7 +12,7 @@ use Rattle.sv_workload.specs.declared.keyword.Keyword.{Keyword}
 use Rattle.sv_workload.specs.declared.keyword.Keyword.TheVariants.{Setup, Act, Schedule, Turn}
 use Rattle.sv_workload.specs.Line.{Line}
 use Rattle.sv_workload.specs.Load.{Load}
-use Rattle.sv_workload.specs.Need.{one_if, is_start_act, IsTask, IsTurn}
+use Rattle.sv_workload.specs.Need.{one_if, is_start_act, IsTask, HasWords, IsTurn}
 use Rattle.sv_workload.specs.Settings.{ring_told, clock_told, cpu_told, base_told, shift_told, AreInRange}
 use Rattle.sv_workload.specs.Scripts.{over_scripts}
 use Rattle.sv_workload.specs.Meaning.{count, is_there, told, tasks_of, scripts_of, action_of}
@@ -30,6 +30,7 @@ pub record IsSound (settings : Settings) (tasks : List Task) (scripts : List (Li
   pub ranges : AreInRange settings
   pub few_tasks : length tasks ≤ 32
   pub tasks_are : All IsTask tasks
+  pub tasks_hold : All HasWords tasks
   pub short_names : All (λ task. length task.name ≤ 128) tasks
   pub few_scripts : length scripts ≤ 16
   pub few_turns : length schedule ≤ 1048576

@@ -1,5 +1,6 @@
 -- How many items and bytes a journal of a workload and its stream have at most.
-use Rattle.std.specs.Prelude.{◌≡◌, ℕ, ◌+◌, ◌*◌, ◌<◌, ◌≤◌, length, sum_by, Bool, true, false, All}
+use Rattle.std.specs.Prelude.{◌≡◌, ℕ, ◌+◌, ◌*◌, ◌^◌, ◌<◌, ◌≤◌, [], ◌∷◌, length, sum_by, Bool, true, false, All}
+use Rattle.sv_prim.specs.Number.{AreWords}
 use Rattle.sv_packet.specs.Spelling.{spelling_of, HasRange, IsRecordable}
 use Rattle.sv_workload.specs.declared.load.Act.{Act}
 use Rattle.sv_workload.specs.declared.load.Act.TheVariants.{Event, Start, Stop}
@@ -72,6 +73,10 @@ pub record HasShortTexts (load : Load) : Type 0 where
 abbrev pub IsTask : Task → Type 0
 IsTask task = (1 ≤ length task.name) × (length task.name ≤ 32)
 
+-- a task's numbers are below 2 ^ 32
+abbrev pub HasWords : Task → Type 0
+HasWords task = AreWords (task.id ∷ task.priority ∷ task.stack_base ∷ task.stack_size ∷ task.extra ∷ [])
+
 -- a parameter goes with the bytes from 128 on, and is 0 for the others
 abbrev pub IsAsked : Command → Type 0
 IsAsked command = (command.byte < 256) × (command.param < 256) × (command.byte < 128 → command.param ≡ 0)
@@ -87,7 +92,10 @@ pub record IsWithinLimits (load : Load) : Type 0 where
   pub ring_least : 64 ≤ load.ring
   pub ring_most : load.ring ≤ 65536
   pub clock : 1 ≤ load.clock
+  pub clock_most : load.clock < 2 ^ 32
   pub cpu : 1 ≤ load.cpu
+  pub cpu_most : load.cpu < 2 ^ 32
+  pub base : load.base < 2 ^ 32
   pub shift : load.shift ≤ 31
   pub writers : length load.scripts ≤ 16
   pub steps : steps_in load ≤ 1048576
@@ -102,6 +110,7 @@ pub record IsWithinLimits (load : Load) : Type 0 where
   pub texts : HasShortTexts load
   pub line_texts : All (λ text. 1 ≤ length text) load.lines
   pub task_names : All IsTask load.tasks
+  pub task_words : All HasWords load.tasks
   pub module_names : All (λ row. 1 ≤ length row.name) load.modules
   pub module_events : offset_after load.modules ≤ 16384
   pub asked : All IsAsked load.commands

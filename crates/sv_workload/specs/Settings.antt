@@ -1,5 +1,5 @@
 -- The settings that lines told, and what holds where a line doesn't tell one.
-use Rattle.std.specs.Prelude.{ℕ, ◌≤◌, Some, None, unwrap_or}
+use Rattle.std.specs.Prelude.{ℕ, ◌^◌, ◌<◌, ◌≤◌, Some, None, unwrap_or}
 use Rattle.sv_workload.specs.declared.keyword.SetupWord.{SetupWord}
 use Rattle.sv_workload.specs.declared.keyword.SetupWord.TheVariants.{Ring, Clock, Cpu, Base, Shift}
 use Rattle.sv_workload.specs.declared.settings.Settings.{Settings}
@@ -27,7 +27,10 @@ pub record AreInRange (settings : Settings) : Type 0 where
   pub ring_least : 64 ≤ ring_told settings
   pub ring_most : ring_told settings ≤ 65536
   pub clock : 1 ≤ clock_told settings
+  pub clock_most : clock_told settings < 2 ^ 32
   pub cpu : 1 ≤ cpu_told settings
+  pub cpu_most : cpu_told settings < 2 ^ 32
+  pub base : base_told settings < 2 ^ 32
   pub shift : shift_told settings ≤ 31
 
 -- one more setting is told; other words tell none

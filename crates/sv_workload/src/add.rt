@@ -4,7 +4,7 @@ ghost use Rattle.std.specs.List.{list_all};
 ghost use Rattle.sv_workload.specs.declared.keyword.Keyword.{Keyword};
 ghost use Rattle.sv_workload.specs.declared.keyword.Keyword.TheVariants.{Setup, Act, Turn};
 ghost use Rattle.sv_workload.specs.Forms.{is_in, form_of};
-ghost use Rattle.sv_workload.specs.Need.{one_if, is_start_act, IsStepAct, IsTask, IsTurn};
+ghost use Rattle.sv_workload.specs.Need.{one_if, is_start_act, IsStepAct, IsTask, HasWords, IsTurn};
 ghost use Rattle.sv_workload.specs.Settings.{tell};
 ghost use Rattle.sv_workload.specs.Scripts.{onto_last, over_scripts};
 ghost use Rattle.sv_workload.specs.Draft.{IsGoodBehind, HasTaken, is_later};
@@ -30,6 +30,7 @@ impl Draft {
     fn add_task(&mut self, task: Task) -> Result<(), NoMemory>
         requires few { length self.old.tasks < 32 }
         requires name { IsTask task }
+        requires words { HasWords task }
         ensures { OnOk result (self.new ≡ record self.old { tasks = self.old.tasks ++ task ∷ [] }) }
     {
         if self.tasks.push(task).is_err() {
@@ -41,7 +42,8 @@ impl Draft {
     /// One more writer, without a step so far.
     fn add_writer(&mut self, alloc: Global) -> Result<(), NoMemory>
         requires { length self.old.scripts < 16 }
-        ensures { OnOk result (self.new ≡ record self.old { scripts = self.old.scripts ++ [] ∷ [] }) }
+        ensures { OnOk result (self.new
+            ≡ record self.old { scripts = self.old.scripts ++ [] ∷ [] }) }
     {
         self.scripts.open(alloc)
     }
@@ -50,10 +52,12 @@ impl Draft {
     fn add_step(&mut self, step: Step) -> Result<(), NoMemory>
         requires writer { 0 < length self.old.scripts }
         requires steps { over_scripts (λ s. 1) self.old.scripts < 1048576 }
-        requires starts { is_start_act step.act ≡ true → over_scripts (λ s. one_if (is_start_act s.act)) self.old.scripts < 256 }
+        requires starts { is_start_act step.act ≡ true
+            → over_scripts (λ s. one_if (is_start_act s.act)) self.old.scripts < 256 }
         requires advance { step.advance ≤ 8589934592 }
         requires act { IsStepAct step.act }
-        ensures { OnOk result (self.new ≡ record self.old { scripts = onto_last step self.old.scripts }) }
+        ensures { OnOk result (self.new
+            ≡ record self.old { scripts = onto_last step self.old.scripts }) }
     {
         self.scripts.push(step)
     }
@@ -69,7 +73,8 @@ impl Draft {
     fn add_turn(&mut self, action: Action) -> Result<(), NoMemory>
         requires few { length self.old.schedule < 1048576 }
         requires turn { IsTurn (length self.old.scripts) action }
-        ensures { OnOk result (self.new ≡ record self.old { schedule = self.old.schedule ++ action ∷ [] }) }
+        ensures { OnOk result (self.new
+            ≡ record self.old { schedule = self.old.schedule ++ action ∷ [] }) }
     {
         if self.schedule.push(action).is_err() {
             return Err(NoMemory);
@@ -128,7 +133,8 @@ impl Draft {
                 Ok(())
             }
             Keyword::Turn(word) => {
-                // The draft's invariant says that there are few writers, so the turn's number is whole.
+                // The draft's invariant says that there are few writers, so the turn's number is
+                // whole.
                 let _ = &self.schedule;
                 self.add_turn(action(line, word))
             }

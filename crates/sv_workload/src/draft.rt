@@ -29,7 +29,13 @@ impl Model for Draft {
 
     ghost Value = { Draft };
 
-    ghost view = { λ d. record { settings = d.settings; tasks = d.tasks.items; scripts = d.scripts; scheduled = d.scheduled; schedule = d.schedule.items } };
+    ghost view = { λ d. record {
+      settings = d.settings;
+      tasks = d.tasks.items;
+      scripts = d.scripts;
+      scheduled = d.scheduled;
+      schedule = d.schedule.items;
+    } };
 
     ghost invariant = { λ d. IsSound d.settings d.tasks.items d.scripts d.schedule.items };
 }
@@ -41,7 +47,13 @@ impl Draft {
 
     /// No line is read yet.
     pub fn new(alloc: Global) -> Draft
-        ensures { result ≡ record { settings = nothing_told; tasks = []; scripts = []; scheduled = false; schedule = [] } }
+        ensures { result ≡ record {
+          settings = nothing_told;
+          tasks = [];
+          scripts = [];
+          scheduled = false;
+          schedule = [];
+        } }
     {
         Draft {
             settings: Settings::new(),

@@ -2,7 +2,7 @@
 ghost use Rattle.std.specs.Prelude.{◌≡◌, ◌<◌, ◌≤◌, All, length, map};
 ghost use Rattle.sv_workload.specs.Load.{script_of};
 ghost use Rattle.sv_workload.specs.Need.{need_items, need_bytes, IsWithinLimits, HasNeed};
-ghost use Rattle.sv_workload.specs.Need.{IsStepAct, IsTask, IsAsked, IsTurn};
+ghost use Rattle.sv_workload.specs.Need.{IsStepAct, IsTask, HasWords, IsAsked, IsTurn};
 ghost use Rattle.sv_workload.specs.Draft.{load_by};
 
 use crate::settings::Settings;
@@ -68,8 +68,8 @@ pub struct Need {
     pub bytes: u64,
 }
 
-/// A registered module: how many events it may send, and what describes them. Modules are numbered in
-/// their order.
+/// A registered module: how many events it may send, and what describes them. Modules are numbered
+/// in their order.
 #[derive(Debug, Drop)]
 pub struct ModuleRow {
     pub events: u32,
@@ -242,6 +242,7 @@ impl Workload {
         ensures told { result.now ≡ self.now.tasks }
         ensures few { length result.now ≤ 32 }
         ensures named { All IsTask result.now }
+        ensures words { All HasWords result.now }
     {
         self.tasks.as_slice()
     }

@@ -6,10 +6,11 @@ use Rattle.sv_workload.specs.declared.keyword.Keyword.{Keyword}
 use Rattle.sv_workload.specs.declared.keyword.Keyword.TheVariants.{Setup}
 use Rattle.sv_workload.specs.declared.keyword.SetupWord.TheVariants as setup
 use Rattle.sv_workload.specs.Line.{text_of}
-use Rattle.sv_workload.proofs.FitSteps.{text_most, task_named}
+use Rattle.sv_workload.proofs.FitSteps.{text_most, task_named, task_words}
 use Rattle.sv_workload.specs.Forms.{is_in, form_of}
 use Rattle.sv_workload.specs.Settings.{tell}
 use Rattle.sv_workload.specs.Meaning.{task_of}
+use Rattle.sv_workload.specs.Need.{HasWords}
 use Rattle.sv_workload.specs.Draft.{Draft, Stands, is_later}
 use Rattle.sv_workload.proofs.Passed.{passes}
 use Rattle.sv_workload.proofs.Ranged.{tells_one}
@@ -32,6 +33,15 @@ add_task-requires-clause-name c =
     let short : length (text_of line) ≤ 32 = text_most line (Setup setup.Task) 32 e refl fit in
     let some : 1 ≤ length (text_of line) = task_named line e fit in
     (omega (arith, some, ap (λ (t : Task). length t.name) task), omega (arith, short, ap (λ (t : Task). length t.name) task))
+
+pub add_task-requires-clause-words : goal.add_task-requires-clause-words
+add_task-requires-clause-words c =
+    let good = c.requires.good in
+    let line = c.args.line.now in
+    let e = c.requires.keyword ∙ ap Setup c.in-Task.is in
+    let fit = fit_of good.0 line (passes good.0 line good.2) in
+    let task : c.in_ok-task-in-Task.task ≡ task_of line = c.in_ok-task-in-Task.ensures line e fit c.requires.numbers c.text_behind.ensures in
+    subst HasWords (sym task) (task_words line e fit)
 
 pub add_setting-requires : goal.add_setting-requires
 add_setting-requires c =

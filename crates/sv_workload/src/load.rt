@@ -68,8 +68,8 @@ pub struct Need {
     pub bytes: u64,
 }
 
-/// A registered module: how many events it may send, and what describes them. Modules are numbered in
-/// their order.
+/// A registered module: how many events it may send, and what describes them. Modules are numbered
+/// in their order.
 #[derive(Debug, Drop)]
 pub struct ModuleRow {
     pub events: u32,

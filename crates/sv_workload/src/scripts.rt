@@ -28,7 +28,8 @@ impl Model for Scripts {
 
     ghost view = { λ s. map (λ script. script.items) s.writers.items };
 
-    ghost invariant = { λ s. AreCounted (map (λ script. script.items) s.writers.items) s.steps s.starts s.bytes };
+    ghost invariant = { λ s.
+        AreCounted (map (λ script. script.items) s.writers.items) s.steps s.starts s.bytes };
 }
 
 /// How many bytes the spelling of an event has, with the delta 0.
@@ -79,8 +80,10 @@ fn add_step(script: &mut Vec<Step>, step: Step) -> Result<(), NoMemory>
 /// Adds a step to the last of these scripts. An `Err` changes nothing.
 fn add_to_last(writers: &mut Vec<Vec<Step>>, step: Step) -> Result<(), NoMemory>
     requires some { 0 < length writers.old.items }
-    ensures ok { OnOk result (map (λ script. script.items) writers.new.items ≡ onto_last step (map (λ script. script.items) writers.old.items)) }
-    ensures err { OnErr result (map (λ script. script.items) writers.new.items ≡ map (λ script. script.items) writers.old.items) }
+    ensures ok { OnOk result (map (λ script. script.items) writers.new.items
+        ≡ onto_last step (map (λ script. script.items) writers.old.items)) }
+    ensures err { OnErr result (map (λ script. script.items) writers.new.items
+        ≡ map (λ script. script.items) writers.old.items) }
 {
     let last = writers.len() - 1;
     add_step(&mut writers[last], step)
@@ -141,7 +144,8 @@ impl Scripts {
     pub fn push(&mut self, step: Step) -> Result<(), NoMemory>
         requires some { 0 < length self.old }
         requires few { over_scripts (λ s. 1) self.old < 1048576 }
-        requires few_starts { is_start_act step.act ≡ true → over_scripts (λ s. one_if (is_start_act s.act)) self.old < 256 }
+        requires few_starts { is_start_act step.act ≡ true
+            → over_scripts (λ s. one_if (is_start_act s.act)) self.old < 256 }
         requires advance { step.advance ≤ 8589934592 }
         requires act { IsStepAct step.act }
         ensures ok { OnOk result (self.new ≡ onto_last step self.old) }
@@ -158,7 +162,8 @@ impl Scripts {
         Ok(())
     }
 
-    /// How many items and bytes a journal of these scripts and its stream have at most, beside so many tasks.
+    /// How many items and bytes a journal of these scripts and its stream have at most, beside so
+    /// many tasks.
     pub fn need(&self, tasks: u64) -> Need
         requires few { tasks ≤ 32 }
         ensures { NeedOf self.now tasks result }

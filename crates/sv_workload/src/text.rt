@@ -12,13 +12,14 @@ use std::alloc::Global;
 /// Reads a text as a workload. `Line` names the first line with a fault, counted from 1, and the
 /// reason: the first check that it fails. `NoMemory` says only that there was too little of it.
 ///
-/// The text is read once, line by line, and memory is taken for what is kept of it alone: each step,
-/// task and turn, and a name, a printed text or a call's numbers in a piece of their own.
+/// The text is read once, line by line, and memory is taken for what is kept of it alone: each
+/// step, task and turn, and a name, a printed text or a call's numbers in a piece of their own.
 pub fn parse(alloc: Global, text: &[u8]) -> Result<Workload, WorkFault>
     requires { length text.now < 2 ^ 32 }
     ensures ok { IfOk result (λ load. IsWorkload text.now load) }
     ensures later { IfOk result SaysNothingOfLater }
-    ensures line { (line reason : ℕ) → result ≡ Err (WorkFault.Line line reason) → first_reason text.now ≡ Some (line, reason) }
+    ensures line { (line reason : ℕ) → result ≡ Err (WorkFault.Line line reason)
+        → first_reason text.now ≡ Some (line, reason) }
 {
     let mut draft = Draft::new(alloc);
     let mut rest = text;

@@ -1,3 +1,4 @@
+pub mod examples
 pub mod Cuts
 pub mod Capping
 pub mod Digits
@@ -15,9 +16,6 @@ pub mod Numbered
 pub mod Standing
 pub mod FitSteps
 pub mod StepActs
-mod Faults
-mod LineFaults
-mod Loads
 pub mod OneMore
 pub mod Passed
 pub mod Growing

@@ -17,7 +17,8 @@ use sv_prim::{Buf, Bytes, NoMemory, Numbers, put_u32, shrink};
 /// The first number as the target sends it: an identifier is shrunk.
 fn sent(word: ActWord, first: u32, base: u32, shift: u32) -> u32
     requires { shift ≤ 31 }
-    ensures { (rest : List ℕ) → result ∷ rest ≡ with_shrunk (form_of (keyword.Act word)).identifier base shift (first ∷ rest) }
+    ensures { (rest : List ℕ) → result ∷ rest
+        ≡ with_shrunk (form_of (keyword.Act word)).identifier base shift (first ∷ rest) }
 {
     if form_of(Keyword::Act(word)).identifier {
         shrink(first, base, shift)
@@ -127,7 +128,8 @@ pub fn act(
     requires shift { shift ≤ 31 }
     requires event { word ≡ Call → slice_index numbers.now 0 ≤ 16383 }
     requires few { word ≡ Call → length numbers.now ≤ 9 }
-    ensures { IfOk result (λ a. a ≡ act_of word (with_shrunk (form_of (keyword.Act word)).identifier base shift numbers.now) text.now) }
+    ensures { IfOk result (λ a. a ≡ act_of word
+        (with_shrunk (form_of (keyword.Act word)).identifier base shift numbers.now) text.now) }
 {
     match numbers {
         [] => act_by(alloc, word, 0, &[], text),

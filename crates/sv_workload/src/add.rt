@@ -26,7 +26,7 @@ impl Draft {
         self.settings.tell(word, n);
     }
 
-    /// One more task, behind the others.
+    /// One more task, after the others.
     fn add_task(&mut self, task: Task) -> Result<(), NoMemory>
         requires few { length self.old.tasks < 32 }
         requires name { IsTask task }
@@ -42,8 +42,8 @@ impl Draft {
     /// One more writer, without a step so far.
     fn add_writer(&mut self, alloc: Global) -> Result<(), NoMemory>
         requires { length self.old.scripts < 16 }
-        ensures { OnOk result (self.new
-            ≡ record self.old { scripts = self.old.scripts ++ [] ∷ [] }) }
+        ensures { OnOk result
+            (self.new ≡ record self.old { scripts = self.old.scripts ++ [] ∷ [] }) }
     {
         self.scripts.open(alloc)
     }
@@ -56,8 +56,8 @@ impl Draft {
             → over_scripts (λ s. one_if (is_start_act s.act)) self.old.scripts < 256 }
         requires advance { step.advance ≤ 8589934592 }
         requires act { IsStepAct step.act }
-        ensures { OnOk result (self.new
-            ≡ record self.old { scripts = onto_last step self.old.scripts }) }
+        ensures { OnOk result
+            (self.new ≡ record self.old { scripts = onto_last step self.old.scripts }) }
     {
         self.scripts.push(step)
     }
@@ -69,12 +69,12 @@ impl Draft {
         self.scheduled = true;
     }
 
-    /// One more turn, behind the others.
+    /// One more turn, after the others.
     fn add_turn(&mut self, action: Action) -> Result<(), NoMemory>
         requires few { length self.old.schedule < 1048576 }
         requires turn { IsTurn (length self.old.scripts) action }
-        ensures { OnOk result (self.new
-            ≡ record self.old { schedule = self.old.schedule ++ action ∷ [] }) }
+        ensures { OnOk result
+            (self.new ≡ record self.old { schedule = self.old.schedule ++ action ∷ [] }) }
     {
         if self.schedule.push(action).is_err() {
             return Err(NoMemory);
@@ -133,8 +133,7 @@ impl Draft {
                 Ok(())
             }
             Keyword::Turn(word) => {
-                // The draft's invariant says that there are few writers, so the turn's number is
-                // whole.
+                // By the draft's invariant there are few writers, so the turn's number is whole.
                 let _ = &self.schedule;
                 self.add_turn(action(line, word))
             }

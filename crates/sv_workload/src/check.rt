@@ -1,4 +1,4 @@
-//! What is wrong with a line behind the lines of a draft: the checks in their order.
+//! What is wrong with a line after the lines of a draft: the checks in their order.
 ghost use Rattle.std.specs.Prelude.{◌≡◌, List, [], IfNone, false};
 ghost use Rattle.sv_workload.specs.Line.{Line};
 ghost use Rattle.sv_workload.specs.Checks.{is_unknown, is_misplaced, has_bad_number};
@@ -35,37 +35,44 @@ fn is_unknown(line: &ReadLine<'_>) -> bool
 impl Draft {
     /// Whether a line stands in another part of the text than its own.
     pub fn is_misplaced(&self, line: &ReadLine<'_>) -> bool
-        ensures { (lines : List Line) → Stands self.now lines → result ≡ is_misplaced lines line.now }
+        ensures { (lines : List Line) → Stands self.now lines
+            → result ≡ is_misplaced lines line.now }
     {
         !self.has_place(line.keyword())
     }
 
     /// Whether a line's like stands before it as often as it may.
     pub fn is_too_many(&self, line: &ReadLine<'_>) -> bool
-        ensures { (lines : List Line) → Stands self.now lines → result ≡ is_too_many lines line.now }
+        ensures { (lines : List Line) → Stands self.now lines
+            → result ≡ is_too_many lines line.now }
     {
         self.has_all(line.keyword())
     }
 
-    /// Whether a line's identifier has low bits that the target would not send. Its numbers are of their ranges.
+    /// Whether a line's identifier has low bits that the target would not send. Its numbers are of
+    /// their ranges.
     pub fn is_unaligned(&self, line: &ReadLine<'_>) -> bool
         requires { has_bad_number [] line.now ≡ false }
-        ensures { (lines : List Line) → Stands self.now lines → result ≡ is_unaligned lines line.now }
+        ensures { (lines : List Line) → Stands self.now lines
+            → result ≡ is_unaligned lines line.now }
     {
         self.loses_bits(line.has_identifier(), line.first_number())
     }
 
-    /// Whether a line's setting was told before, or a task with its identifier was. Its numbers are of their ranges.
+    /// Whether a line's setting was told before, or a task with its identifier was. Its numbers are
+    /// of their ranges.
     pub fn is_repeated(&self, line: &ReadLine<'_>) -> bool
         requires { has_bad_number [] line.now ≡ false }
-        ensures { (lines : List Line) → Stands self.now lines → result ≡ is_repeated lines line.now }
+        ensures { (lines : List Line) → Stands self.now lines
+            → result ≡ is_repeated lines line.now }
     {
         self.repeats(line.keyword(), line.first_number())
     }
 
     /// Whether a line's turn goes to a writer that there isn't.
     pub fn has_no_writer(&self, line: &ReadLine<'_>) -> bool
-        ensures { (lines : List Line) → Stands self.now lines → result ≡ has_no_writer lines line.now }
+        ensures { (lines : List Line) → Stands self.now lines
+            → result ≡ has_no_writer lines line.now }
     {
         self.lacks_writer(line.keyword(), line.first_number())
     }
@@ -73,7 +80,8 @@ impl Draft {
     /// What is wrong with where a line stands, or with its words.
     fn form_fault(&self, line: &ReadLine<'_>) -> Option<LineFault>
         requires { is_later line.now.keyword ≡ false }
-        ensures first { (lines : List Line) → Stands self.now lines → result ≡ first_of form_checks lines line.now }
+        ensures first { (lines : List Line) → Stands self.now lines
+            → result ≡ first_of form_checks lines line.now }
         ensures good { IfNone result (has_bad_number [] line.now ≡ false) }
     {
         if is_unknown(line) {
@@ -94,11 +102,12 @@ impl Draft {
         None
     }
 
-    /// What is wrong with what a line says behind the lines before it.
+    /// What is wrong with what a line says after the lines before it.
     fn later_fault(&self, line: &ReadLine<'_>) -> Option<LineFault>
         requires known { is_later line.now.keyword ≡ false }
         requires good { has_bad_number [] line.now ≡ false }
-        ensures { (lines : List Line) → Stands self.now lines → result ≡ first_of later_checks lines line.now }
+        ensures { (lines : List Line) → Stands self.now lines
+            → result ≡ first_of later_checks lines line.now }
     {
         if self.is_unaligned(line) {
             return Some(LineFault::Unaligned);
@@ -115,7 +124,7 @@ impl Draft {
         None
     }
 
-    /// What is wrong with a line behind the lines of the draft, if anything is.
+    /// What is wrong with a line after the lines of the draft, if anything is.
     pub fn fault(&self, line: &ReadLine<'_>) -> Option<LineFault>
         requires { is_later line.now.keyword ≡ false }
         ensures { (lines : List Line) → Stands self.now lines → result ≡ fault_of lines line.now }

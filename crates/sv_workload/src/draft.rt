@@ -131,7 +131,7 @@ impl Draft {
     ghost use Rattle.sv_workload.specs.Checking.{has_place, has_all_steps, has_all};
     ghost use Rattle.sv_workload.specs.Checking.{repeats, lacks_writer};
 
-    /// Whether the keyword may stand behind the lines of the draft.
+    /// Whether the keyword may stand after the lines of the draft.
     pub fn has_place(&self, keyword: Keyword) -> bool
         ensures { result ≡ has_place self.now keyword }
     {
@@ -183,14 +183,16 @@ impl Draft {
 
     /// Whether nothing of an identifier is lost as it is shrunk.
     pub fn is_aligned(&self, id: u32) -> bool
-        ensures { result ≡ is_aligned id (base_told self.now.settings) (shift_told self.now.settings) }
+        ensures { result ≡
+            is_aligned id (base_told self.now.settings) (shift_told self.now.settings) }
     {
         aligned(id, self.settings.base(), self.settings.shift())
     }
 
     /// Whether something is lost of an identifier, if the number is one.
     pub fn loses_bits(&self, identifier: bool, id: u32) -> bool
-        ensures { result ≡ (identifier && not (is_aligned id (base_told self.now.settings) (shift_told self.now.settings))) }
+        ensures { result ≡ (identifier
+            && not (is_aligned id (base_told self.now.settings) (shift_told self.now.settings))) }
     {
         identifier && !self.is_aligned(id)
     }
@@ -219,9 +221,11 @@ impl Draft {
     /// Takes a line that says something, or tells what is wrong with it.
     fn take_said(&mut self, alloc: Global, bytes: &[u8]) -> Result<Option<LineFault>, NoMemory>
         requires { (lines : List Line) × Stands self.old lines }
-        ensures fault { (lines : List Line) (fault : LineFault) → Stands self.old lines → result ≡ Ok (Some fault) → fault_of lines (line_of bytes.now) ≡ Some fault }
+        ensures fault { (lines : List Line) (fault : LineFault) → Stands self.old lines
+            → result ≡ Ok (Some fault) → fault_of lines (line_of bytes.now) ≡ Some fault }
         ensures good { (lines : List Line) → Stands self.old lines → result ≡ Ok None
-            → (fault_of lines (line_of bytes.now) ≡ None) × Stands self.new (lines ++ line_of bytes.now ∷ []) }
+            → (fault_of lines (line_of bytes.now) ≡ None)
+            × Stands self.new (lines ++ line_of bytes.now ∷ []) }
     {
         let line = ReadLine::of(bytes);
         if let Some(fault) = self.fault(&line) {
@@ -231,10 +235,11 @@ impl Draft {
         Ok(None)
     }
 
-    /// Takes one more line of a text, or tells what is wrong with it behind the lines before it.
+    /// Takes one more line of a text, or tells what is wrong with it after the lines before it.
     pub fn take(&mut self, alloc: Global, line: &[u8]) -> Result<Option<LineFault>, NoMemory>
         requires { (before : List (List ℕ)) × Stands self.old (said before) }
-        ensures fault { (before : List (List ℕ)) (fault : LineFault) → Stands self.old (said before) → result ≡ Ok (Some fault) → fault_at before line.now ≡ Some fault }
+        ensures fault { (before : List (List ℕ)) (fault : LineFault) → Stands self.old (said before)
+            → result ≡ Ok (Some fault) → fault_at before line.now ≡ Some fault }
         ensures good { (before : List (List ℕ)) → Stands self.old (said before) → result ≡ Ok None
             → (fault_at before line.now ≡ None) × Stands self.new (said (before ++ line.now ∷ [])) }
     {

@@ -20,7 +20,12 @@ impl Model for Form {
 
     ghost Value = { Form };
 
-    ghost view = { λ f. record { numbers = f.numbers.now; more = f.more.now; text = f.text; identifier = f.identifier } };
+    ghost view = { λ f. record {
+      numbers = f.numbers.now;
+      more = f.more.now;
+      text = f.text;
+      identifier = f.identifier;
+    } };
 }
 
 const WORD: Range = Range {

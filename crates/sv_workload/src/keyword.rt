@@ -1,6 +1,7 @@
 //! Keywords, and which words spell them.
 ghost use Rattle.std.specs.Prelude.{◌≡◌};
-ghost use Rattle.sv_workload.specs.Keywords.{spelling, keyword_among, of_length, step_keywords, other_keywords};
+ghost use Rattle.sv_workload.specs.Keywords.{spelling, keyword_among, of_length, step_keywords};
+ghost use Rattle.sv_workload.specs.Keywords.{other_keywords};
 
 /// The words that begin a line about the target, its tasks or what the host asks.
 #[derive(Clone, Copy, Debug, PartialEq, Eq)]

@@ -1,9 +1,10 @@
-ghost use Rattle.std.specs.Prelude.{◌≡◌, ℕ, ◌+◌, ◌<◌, List, [], length, take, slice_index_or, Some, None};
+ghost use Rattle.std.specs.Prelude.{◌≡◌, ℕ, ◌+◌, ◌<◌, List, [], length, take, slice_index_or, Some};
+ghost use Rattle.std.specs.Prelude.{None};
 ghost use Rattle.sv_workload.specs.Lines.{lines_of};
 ghost use Rattle.sv_workload.specs.Grammar.{fault_at, first_fault, IsFirstFault};
 ghost use Rattle.sv_workload.specs.declared.fault.LineFault.{LineFault};
 
-/// The law of the language: a text's first fault is that of the one line with a fault behind lines
+/// The law of the language: a text's first fault is that of the one line with a fault after lines
 /// without one, and a text without such a line has none.
 pub fn the_first_fault()
     ensures some { (text : List ℕ) (place : ℕ) (fault : LineFault) →

@@ -1,10 +1,10 @@
 //! Workloads: what the writers of a run do, and in which order.
 //!
-//! `parse` reads a `text` by its `lines`. A line is cut at its spaces (`cut_line`), and its `keyword` says
-//! which `form` it has: that is a `read_line`. Its own words come first: how many there are (`shape`), the
-//! numbers among them (`range`) and its text (`line_text`). Then it is checked against the `draft` of the
-//! lines before it (`check`). A line without a fault makes a step, a task or a turn (`parts`), which the
-//! draft takes up (`add`).
+//! `parse` reads a `text` by its `lines`. A line is cut at its spaces (`cut_line`), and its
+//! `keyword` says which `form` it has: that is a `read_line`. Its own words come first: how many
+//! there are (`shape`), the numbers among them (`range`) and its text (`line_text`). Then it is
+//! checked against the `draft` of the lines before it (`check`). A line without a fault makes a
+//! step, a task or a turn (`parts`), which the draft takes up (`add`).
 #![tactic(auto)]
 
 mod acts;

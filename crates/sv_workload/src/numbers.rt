@@ -1,5 +1,6 @@
 //! The numbers of a line.
-ghost use Rattle.std.specs.Prelude.{◌≡◌, ◌+◌, ◌++◌, ◌≤◌, take, map, length, unwrap_or, slice_index_or};
+ghost use Rattle.std.specs.Prelude.{◌≡◌, ◌+◌, ◌++◌, ◌≤◌, take, map, length, unwrap_or};
+ghost use Rattle.std.specs.Prelude.{slice_index_or};
 ghost use Rattle.sv_workload.specs.Line.{numbers_of};
 ghost use Rattle.sv_workload.specs.Forms.{form_of};
 ghost use Rattle.sv_workload.specs.Words.{number_of};
@@ -11,7 +12,8 @@ use crate::number::capped_number;
 use crate::words::Words;
 use arrayvec::ArrayVec;
 
-/// The number that a word is, and 0 for any other word. One above the greatest `u32` counts as that one.
+/// The number that a word is, and 0 for any other word. One above the greatest `u32` counts as that
+/// one.
 fn number_or_zero(word: &[u8]) -> u32
     ensures { result ≡ capped (unwrap_or (number_of word.now) 0) }
 {
@@ -24,7 +26,8 @@ fn number_or_zero(word: &[u8]) -> u32
 /// The numbers of the first words, at most so many.
 fn first_numbers(mut words: Words<'_>, count: usize) -> ArrayVec<u32, 9>
     requires { count ≤ 9 }
-    ensures { result.items ≡ map (λ word. capped (unwrap_or (number_of word) 0)) (take count words.entry) }
+    ensures { result.items ≡
+        map (λ word. capped (unwrap_or (number_of word) 0)) (take count words.entry) }
 {
     let mut numbers = ArrayVec::new();
     for _ in 0..count {

@@ -68,8 +68,8 @@ pub fn task(alloc: Global, line: &ReadLine<'_>) -> Result<Task, NoMemory>
     named_task(alloc, line.numbers(), line.text())
 }
 
-/// The step of a line, by its word. The base is an address in bytes from which identifiers are counted,
-/// and the shift the count of their low bits that are dropped, 0 to 31.
+/// The step of a line, by its word. The base is an address in bytes from which identifiers are
+/// counted, and the shift the count of their low bits that are dropped, 0 to 31.
 ///
 /// Memory is taken once for a text or for the numbers of a call, and else not.
 pub fn step(

@@ -22,7 +22,8 @@ pub struct Range {
 }
 
 fn is_at_most(n: u64, most: Option<u32>) -> bool
-    ensures { (whole : ℕ) → n ≡ min whole (2 ^ 64 - 1) → result ≡ option_map_or (λ most. nat_le whole most) most true }
+    ensures { (whole : ℕ) → n ≡ min whole (2 ^ 64 - 1)
+        → result ≡ option_map_or (λ most. nat_le whole most) most true }
 {
     match most {
         Some(most) => n <= most as u64,
@@ -53,7 +54,8 @@ pub fn is_within(range: &Range, word: &[u8]) -> bool
     }
 }
 
-/// Takes a word off the front for each range, up to one that is no number of its range. Whether there is none such.
+/// Takes a word off the front for each range, up to one that is no number of its range. Whether
+/// each is one.
 fn are_within(ranges: &[Range], words: &mut Words<'_>) -> bool
     ensures told { result ≡ are_within ranges.now words.old }
     ensures rest { IsTrue result → words.new ≡ drop (length ranges.now) words.old }
@@ -73,7 +75,8 @@ fn are_within(ranges: &[Range], words: &mut Words<'_>) -> bool
 
 /// Whether so many ticks may pass before a step. `u64::MAX` stands for every number from there on.
 fn are_few_ticks(n: u64) -> bool
-    ensures { (whole : ℕ) → n ≡ min whole (2 ^ 64 - 1) → result ≡ is_in (between 0 8589934592) whole }
+    ensures { (whole : ℕ) → n ≡ min whole (2 ^ 64 - 1)
+        → result ≡ is_in (between 0 8589934592) whole }
 {
     n <= MOST_TICKS
 }
@@ -90,7 +93,8 @@ fn is_ticks(word: &[u8]) -> bool
 
 /// Whether the word for the ticks is a number of their range, if there is one.
 fn are_ticks(word: Option<&[u8]>) -> bool
-    ensures { result ≡ option_map_or (λ word. is_within (between 0 8589934592) word.now) word.entry true }
+    ensures { result ≡
+        option_map_or (λ word. is_within (between 0 8589934592) word.now) word.entry true }
 {
     match word {
         Some(word) => is_ticks(word),

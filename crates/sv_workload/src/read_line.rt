@@ -1,5 +1,6 @@
 //! A line that was read.
-ghost use Rattle.std.specs.Prelude.{◌≡◌, ◌-◌, ◌^◌, map, min, option_and_then, option_map, unwrap_or};
+ghost use Rattle.std.specs.Prelude.{◌≡◌, ◌-◌, ◌^◌, map, min, option_and_then, option_map};
+ghost use Rattle.std.specs.Prelude.{unwrap_or};
 ghost use Rattle.sv_workload.specs.Forms.{form_of};
 ghost use Rattle.sv_workload.specs.Line.{line_of, numbers_of, text_of};
 ghost use Rattle.sv_workload.specs.Meaning.{number};
@@ -75,8 +76,8 @@ impl<'a> ReadLine<'a> {
         self.cut.advance
     }
 
-    /// The ticks that pass before a step. More than the greatest `u64` count as that many, and a line
-    /// without a number for them has 0.
+    /// The ticks that pass before a step. More than the greatest `u64` count as that many, and a
+    /// line without a number for them has 0.
     pub fn ticks(&self) -> u64
         ensures { result ≡
             min (unwrap_or (option_and_then number_of self.now.advance) 0) (2 ^ 64 - 1) }
@@ -91,8 +92,8 @@ impl<'a> ReadLine<'a> {
         self.numbers.as_slice()
     }
 
-    /// The first number. One above the greatest `u32` counts as that one, and a line without numbers
-    /// has 0.
+    /// The first number. One above the greatest `u32` counts as that one, and a line without
+    /// numbers has 0.
     pub fn first_number(&self) -> u32
         ensures { result ≡ capped (number self.now 0) }
     {

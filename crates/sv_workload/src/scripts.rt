@@ -28,8 +28,8 @@ impl Model for Scripts {
 
     ghost view = { λ s. map (λ script. script.items) s.writers.items };
 
-    ghost invariant = { λ s. AreCounted (map (λ script. script.items) s.writers.items)
-        s.steps s.starts s.bytes };
+    ghost invariant = { λ s.
+        AreCounted (map (λ script. script.items) s.writers.items) s.steps s.starts s.bytes };
 }
 
 /// How many bytes the spelling of an event has, with the delta 0.

@@ -14,7 +14,8 @@ pub struct Settings {
 }
 
 impl Settings {
-    ghost use Rattle.sv_workload.specs.Settings.{nothing_told, tell, ring_told, clock_told, cpu_told, base_told, shift_told};
+    ghost use Rattle.sv_workload.specs.Settings.{nothing_told, tell, ring_told, clock_told};
+    ghost use Rattle.sv_workload.specs.Settings.{cpu_told, base_told, shift_told};
 
     /// Nothing is told yet.
     pub fn new() -> Settings

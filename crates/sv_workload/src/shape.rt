@@ -16,9 +16,11 @@ fn is_word(word: &[u8]) -> bool
     !word.is_empty()
 }
 
-/// Takes so many words off the front, up to one that is empty. Whether they are there, and none is empty.
+/// Takes so many words off the front, up to one that is empty. Whether they are there, and none is
+/// empty.
 fn take_words(words: &mut Words<'_>, count: usize) -> bool
-    ensures told { result ≡ (nat_le count (length words.old) && list_all is_word (take count words.old)) }
+    ensures told { result ≡
+        (nat_le count (length words.old) && list_all is_word (take count words.old)) }
     ensures rest { IsTrue result → words.new ≡ drop count words.old }
 {
     for _ in 0..count {
@@ -53,7 +55,8 @@ fn are_few_words(mut words: Words<'_>, most: usize) -> bool
 
 /// Whether the words, or those before the text, are as the form wants them, and none is empty.
 fn fits(mut words: Words<'_>, form: &Form) -> bool
-    ensures { result ≡ fits form.now words.entry (join_with_byte 32 (drop (length form.now.numbers) words.entry)) }
+    ensures { result ≡ fits form.now words.entry
+        (join_with_byte 32 (drop (length form.now.numbers) words.entry)) }
 {
     if !take_words(&mut words, form.numbers.len()) {
         return false;

@@ -141,7 +141,7 @@ fn the_first_line_with_a_fault(rt: HostRuntime) {
     }
 }
 
-/// So many lines of a kind behind a text.
+/// So many lines of a kind after a text.
 fn with_lines(
     alloc: Global,
     text: &[u8],

@@ -40,7 +40,7 @@ add_task-requires-clause-words c =
     let line = c.args.line.now in
     let e = c.requires.keyword ∙ ap Setup c.in-Task.is in
     let fit = fit_of good.0 line (passes good.0 line good.2) in
-    let task : c.in_ok-task-in-Task.task ≡ task_of line = c.in_ok-task-in-Task.ensures line e fit c.requires.numbers c.text_behind.ensures in
+    let task : c.in_ok-task-in-Task.task ≡ task_of line = c.in_ok-task-in-Task.ensures e fit in
     subst HasWords (sym task) (task_words line e fit)
 
 pub add_setting-requires : goal.add_setting-requires

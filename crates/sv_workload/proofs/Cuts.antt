@@ -1,5 +1,6 @@
 -- Cutting a list at the first element that passes.
-use Rattle.std.proofs.Common.{◌≡◌, ℕ, ◌+◌, ◌≤◌, Bool, true, false, cond, List, [], ◌∷◌, length, take, drop, Option, Some, None, refl, subst, nat_lt, arith}
+use Rattle.std.proofs.Common.{◌≡◌, ℕ, ◌+◌, ◌≤◌, Bool, true, false, cond, List, [], ◌∷◌, length}
+use Rattle.std.proofs.Common.{take, drop, Option, Some, None, refl, subst, nat_lt, arith}
 use Rattle.std.specs.Prelude.{position}
 use Rattle.std.specs.List.{slice_split, position_or_len, before_first, after_first}
 use Rattle.std.proofs.lemmas.List.Splits.{slice_split_first, slice_split_none}
@@ -19,10 +20,12 @@ some_by true n k e = (refl, cc)
 some_by false n k e = cc
 
 module _ {X : Type 0} (p : X → Bool) (xs : List X) (d : X) where
-  pub split_at_place : (place : ℕ) → position p xs ≡ Some place → slice_split p xs ≡ take place xs ∷ slice_split p (drop (place + 1) xs)
+  pub split_at_place : (place : ℕ) → position p xs ≡ Some place → slice_split p xs ≡ take place xs ∷
+      slice_split p (drop (place + 1) xs)
   split_at_place place e =
       let t = some_by (nat_lt (position_or_len p xs) (length xs)) (position_or_len p xs) place e in
-      let first : slice_split p xs ≡ before_first p xs ∷ slice_split p (after_first p xs) = slice_split_first p xs d (ltb-true _ _ t.0) in
+      let first : slice_split p xs ≡ before_first p xs ∷ slice_split p (after_first p xs) =
+      slice_split_first p xs d (ltb-true _ _ t.0) in
       subst (λ (k : ℕ). slice_split p xs ≡ take k xs ∷ slice_split p (drop (k + 1) xs)) t.1 first
 
   pub split_nowhere : position p xs ≡ None → slice_split p xs ≡ xs ∷ []

@@ -1,5 +1,6 @@
 -- The first check that a line fails.
-use Rattle.std.proofs.Common.{◌≡◌, Bool, true, false, cond, ◌&&◌, List, ◌∷◌, Option, Some, None, refl, sym, ap, ◌∙◌}
+use Rattle.std.proofs.Common.{◌≡◌, Bool, true, false, cond, ◌&&◌, List, ◌∷◌, Option, Some, None}
+use Rattle.std.proofs.Common.{refl, sym, ap, ◌∙◌}
 use Rattle.std.specs.Prelude.{find, option_map}
 use Rattle.std.specs.Option.{option_or}
 use Rattle.std.proofs.lemmas.Bool.{false≢true, false_from_ne_true}
@@ -9,7 +10,8 @@ use Rattle.sv_workload.specs.declared.keyword.SetupWord.TheVariants.{Ring, Modul
 use Rattle.sv_workload.specs.declared.keyword.ActWord.TheVariants.{Start}
 use Rattle.sv_workload.specs.declared.keyword.TurnWord.TheVariants.{Step}
 use Rattle.sv_workload.specs.declared.keyword.Keyword.{Keyword}
-use Rattle.sv_workload.specs.declared.keyword.Keyword.TheVariants.{Setup, Writer, Act, Schedule, Turn, Unknown}
+use Rattle.sv_workload.specs.declared.keyword.Keyword.TheVariants.{Setup, Writer, Act, Schedule}
+use Rattle.sv_workload.specs.declared.keyword.Keyword.TheVariants.{Turn, Unknown}
 use Rattle.sv_workload.specs.Keywords.{is_same}
 use Rattle.sv_workload.specs.Line.{Line}
 use Rattle.sv_workload.specs.Meaning.{number, modules_of}
@@ -30,18 +32,27 @@ no_keyword (Turn Step) = refl
 no_keyword (Turn other) = refl
 
 -- a keyword that lines can have by now isn't one that they can't
-pub not_later : (word k : Keyword) → is_later word ≡ true → is_later k ≡ false → is_same word k ≡ false
-not_later word k later known = false_from_ne_true (is_same word k) (λ e. false≢true (sym known ∙ ap is_later (sym (same_keyword word k e)) ∙ later))
+pub not_later : (word k : Keyword) → is_later word ≡ true → is_later k ≡ false
+    → is_same word k ≡ false
+not_later word k later known =
+    false_from_ne_true (is_same word k)
+    (λ e. false≢true (sym known ∙ ap is_later (sym (same_keyword word k e)) ∙ later))
 
-pub room : (lines : List Line) (line : Line) → is_later line.keyword ≡ false → has_no_room lines line ≡ false
-room lines line known = ap (λ (b : Bool). b && is_full_for (modules_of lines) (number line 0)) (not_later (Setup Module) line.keyword refl known)
+pub room : (lines : List Line) (line : Line) → is_later line.keyword ≡ false
+    → has_no_room lines line ≡ false
+room lines line known =
+    ap (λ (b : Bool). b && is_full_for (modules_of lines) (number line 0))
+    (not_later (Setup Module) line.keyword refl known)
 
 module _ (check : Check) (fault : LineFault) (more : List (Check × LineFault)) (lines : List Line) (line : Line) where
-  found_by : (b : Bool) (rest : Option (Check × LineFault)) → b ≡ true → option_map (λ (c : Check × LineFault). c.1) (cond b (Some (check, fault)) rest) ≡ Some fault
+  found_by : (b : Bool) (rest : Option (Check × LineFault)) → b ≡ true → option_map
+      (λ (c : Check × LineFault). c.1) (cond b (Some (check, fault)) rest) ≡ Some fault
   found_by true rest e = refl
   found_by false rest e = absurd (false≢true e)
 
-  passed_by : (b : Bool) (rest : Option (Check × LineFault)) → b ≡ false → option_map (λ (c : Check × LineFault). c.1) (cond b (Some (check, fault)) rest) ≡ option_map (λ (c : Check × LineFault). c.1) rest
+  passed_by : (b : Bool) (rest : Option (Check × LineFault)) → b ≡ false → option_map
+      (λ (c : Check × LineFault). c.1) (cond b (Some (check, fault)) rest) ≡ option_map
+      (λ (c : Check × LineFault). c.1) rest
   passed_by false rest e = refl
   passed_by true rest e = absurd (false≢true (sym e))
 
@@ -50,15 +61,23 @@ module _ (check : Check) (fault : LineFault) (more : List (Check × LineFault)) 
   failed e = found_by (check lines line) (find (λ (c : Check × LineFault). c.0 lines line) more) e
 
   -- the line passes it, so that the later ones decide
-  pub passed : check lines line ≡ false → first_of ((check, fault) ∷ more) lines line ≡ first_of more lines line
+  pub passed : check lines line ≡ false → first_of ((check, fault) ∷ more) lines line ≡ first_of
+      more lines line
   passed e = passed_by (check lines line) (find (λ (c : Check × LineFault). c.0 lines line) more) e
 
-either : (a b : Option (Check × LineFault)) → option_map (λ (c : Check × LineFault). c.1) (option_or a b) ≡ option_or (option_map (λ (c : Check × LineFault). c.1) a) (option_map (λ (c : Check × LineFault). c.1) b)
+either : (a b : Option (Check × LineFault))
+    → option_map (λ (c : Check × LineFault). c.1) (option_or a b) ≡ option_or
+    (option_map (λ (c : Check × LineFault). c.1) a)
+    (option_map (λ (c : Check × LineFault). c.1) b)
 either (Some c) b = refl
 either None b = refl
 
 -- both parts of the checks, one after the other
-pub both : (lines : List Line) (line : Line) → fault_of lines line ≡ option_or (first_of form_checks lines line) (first_of later_checks lines line)
+pub both : (lines : List Line) (line : Line)
+    → fault_of lines line ≡ option_or (first_of form_checks lines line)
+    (first_of later_checks lines line)
 both lines line =
-    ap (option_map (λ (c : Check × LineFault). c.1)) (find-append (λ (c : Check × LineFault). c.0 lines line) form_checks later_checks)
-    ∙ either (find (λ (c : Check × LineFault). c.0 lines line) form_checks) (find (λ (c : Check × LineFault). c.0 lines line) later_checks)
+    ap (option_map (λ (c : Check × LineFault). c.1))
+    (find-append (λ (c : Check × LineFault). c.0 lines line) form_checks later_checks)
+    ∙ either (find (λ (c : Check × LineFault). c.0 lines line) form_checks)
+    (find (λ (c : Check × LineFault). c.0 lines line) later_checks)

@@ -1,15 +1,23 @@
 -- Keywords are told apart by how they are spelled, and lines are counted by them.
-use Rattle.std.proofs.Common.{◌≡◌, ℕ, Bool, true, false, not, cond, List, [], ◌∷◌, ◌++◌, refl, sym, ap, ◌∙◌, arith}
+use Rattle.std.proofs.Common.{◌≡◌, ℕ, Bool, true, false, not, cond, List, [], ◌∷◌, ◌++◌, refl, sym}
+use Rattle.std.proofs.Common.{ap, ◌∙◌, arith}
 use Rattle.std.specs.Prelude.{map, find, unwrap_or, bytes_eq, length, ◌==◌, Some}
 use Rattle.std.specs.List.{list_all}
 use Rattle.std.proofs.lemmas.Bool.{and_parts, false_from_ne_true, eq-eqb}
 use Rattle.std.proofs.lemmas.List.Sums.{sum_by-cons}
 use Rattle.std.proofs.lemmas.Slice.Eq.{bytes_eq-Decides}
-use Rattle.sv_workload.specs.declared.keyword.SetupWord.TheVariants.{Ring, Clock, Cpu, Base, Shift, Time, Desc, Task, Module, Command}
-use Rattle.sv_workload.specs.declared.keyword.ActWord.TheVariants.{Start, Stop, Nop, Isr, IsrExit, Run, Halt, Ready, Unready, Create, Terminate, Mark, MarkEnd, Idle, Sched, Timer, TimerExit, Name, Print, Call, Return}
+use Rattle.sv_workload.specs.declared.keyword.SetupWord.TheVariants.{Ring, Clock, Cpu, Base, Shift}
+use Rattle.sv_workload.specs.declared.keyword.SetupWord.TheVariants.{Time, Desc, Task, Module}
+use Rattle.sv_workload.specs.declared.keyword.SetupWord.TheVariants.{Command}
+use Rattle.sv_workload.specs.declared.keyword.ActWord.TheVariants.{Start, Stop, Nop, Isr, IsrExit}
+use Rattle.sv_workload.specs.declared.keyword.ActWord.TheVariants.{Run, Halt, Ready, Unready}
+use Rattle.sv_workload.specs.declared.keyword.ActWord.TheVariants.{Create, Terminate, Mark, MarkEnd}
+use Rattle.sv_workload.specs.declared.keyword.ActWord.TheVariants.{Idle, Sched, Timer, TimerExit}
+use Rattle.sv_workload.specs.declared.keyword.ActWord.TheVariants.{Name, Print, Call, Return}
 use Rattle.sv_workload.specs.declared.keyword.TurnWord.TheVariants.{Step, Read, Send}
 use Rattle.sv_workload.specs.declared.keyword.Keyword.{Keyword}
-use Rattle.sv_workload.specs.declared.keyword.Keyword.TheVariants.{Setup, Writer, Act, Schedule, Turn, Unknown}
+use Rattle.sv_workload.specs.declared.keyword.Keyword.TheVariants.{Setup, Writer, Act, Schedule}
+use Rattle.sv_workload.specs.declared.keyword.Keyword.TheVariants.{Turn, Unknown}
 use Rattle.sv_workload.specs.Keywords.{step_keywords, spelling, is_same, keyword_among, of_length}
 use Rattle.sv_workload.specs.Line.{Line}
 use Rattle.sv_workload.specs.Meaning.{says, count}
@@ -17,7 +25,10 @@ use Rattle.sv_workload.specs.Draft.{is_later}
 
 -- all that can be spelled
 abbrev every_keyword : List Keyword
-every_keyword = step_keywords ++ (map Setup (Ring ∷ Clock ∷ Cpu ∷ Base ∷ Shift ∷ Time ∷ Desc ∷ Task ∷ Module ∷ Command ∷ []) ++ (Writer ∷ Schedule ∷ map Turn (Step ∷ Read ∷ Send ∷ [])))
+every_keyword =
+    step_keywords ++ (map Setup
+    (Ring ∷ Clock ∷ Cpu ∷ Base ∷ Shift ∷ Time ∷ Desc ∷ Task ∷ Module ∷ Command ∷ []) ++
+    (Writer ∷ Schedule ∷ map Turn (Step ∷ Read ∷ Send ∷ [])))
 
 read_back : (k : Keyword) → keyword_among every_keyword (spelling k) ≡ k
 read_back (Setup Ring) = refl
@@ -60,15 +71,20 @@ read_back Unknown = refl
 
 -- keywords that are spelled alike are one
 pub same_keyword : (a b : Keyword) → is_same a b ≡ true → a ≡ b
-same_keyword a b e = sym (read_back a) ∙ ap (keyword_among every_keyword) ((bytes_eq-Decides (spelling a) (spelling b)).0 e) ∙ read_back b
+same_keyword a b e =
+    sym (read_back a) ∙ ap (keyword_among every_keyword)
+    ((bytes_eq-Decides (spelling a) (spelling b)).0 e) ∙ read_back b
 
 -- a keyword that no line can have yet isn't counted
-pub none_later : (k : Keyword) → is_later k ≡ true → (lines : List Line) → list_all (λ line. not (is_later line.keyword)) lines ≡ true → count k lines ≡ 0
+pub none_later : (k : Keyword) → is_later k ≡ true → (lines : List Line)
+    → list_all (λ line. not (is_later line.keyword)) lines ≡ true → count k lines ≡ 0
 none_later k later [] all = refl
 none_later k later (line ∷ lines) all =
-    let parts = and_parts (not (is_later line.keyword)) (list_all (λ line. not (is_later line.keyword)) lines) all in
+    let parts = and_parts (not (is_later line.keyword))
+    (list_all (λ line. not (is_later line.keyword)) lines) all in
     let other : says k line ≡ false = false_from_ne_true (says k line) (λ e.
-    let here : is_later line.keyword ≡ true = ap is_later (sym (same_keyword k line.keyword e)) ∙ later in
+    let here : is_later line.keyword ≡ true = ap is_later (sym (same_keyword k line.keyword e)) ∙
+    later in
     let there : not (is_later line.keyword) ≡ false = ap not here in
     absurd (let n : true ≡ false = sym parts.0 ∙ there in cc)) in
     let rest : count k lines ≡ 0 = none_later k later lines parts.1 in
@@ -76,17 +92,24 @@ none_later k later (line ∷ lines) all =
     omega (arith, sum_by-cons (λ line. cond {A = ℕ} (says k line) 1 0) line lines, here, rest)
 
 -- a word spells no keyword of another length
-pub among_of_length : (keywords : List Keyword) (word : List ℕ) → keyword_among (of_length (length word) keywords) word ≡ keyword_among keywords word
+pub among_of_length : (keywords : List Keyword) (word : List ℕ)
+    → keyword_among (of_length (length word) keywords) word ≡ keyword_among keywords word
 among_of_length [] word = refl
 among_of_length (k ∷ keywords) word =
-    by (length (spelling k) == length word) refl (bytes_eq (spelling k) word) refl (among_of_length keywords word)
+    by (length (spelling k) == length word) refl (bytes_eq (spelling k) word) refl
+    (among_of_length keywords word)
   where
-    by : (long : Bool) → (length (spelling k) == length word) ≡ long → (same : Bool) → bytes_eq (spelling k) word ≡ same
+    by : (long : Bool) → (length (spelling k) == length word) ≡ long → (same : Bool) → bytes_eq
+        (spelling k) word ≡ same
         → keyword_among (of_length (length word) keywords) word ≡ keyword_among keywords word
-        → keyword_among (cond long (k ∷ of_length (length word) keywords) (of_length (length word) keywords)) word ≡ unwrap_or (cond same (Some k) (find (λ k. bytes_eq (spelling k) word) keywords)) Unknown
+        → keyword_among (cond long (k ∷ of_length (length word) keywords)
+        (of_length (length word) keywords)) word ≡ unwrap_or
+        (cond same (Some k) (find (λ k. bytes_eq (spelling k) word) keywords)) Unknown
     by true l true s more = rw s refl
     by true l false s more = rw s more
     by false l true s more =
-        let equal : length (spelling k) ≡ length word = ap length ((bytes_eq-Decides (spelling k) word).0 s) in
-        absurd (let n : false ≡ true = sym l ∙ eq-eqb (length (spelling k)) (length word) equal in cc)
+        let equal : length (spelling k) ≡ length word = ap length
+        ((bytes_eq-Decides (spelling k) word).0 s) in
+        absurd (let n : false ≡ true = sym l ∙ eq-eqb (length (spelling k)) (length word) equal in
+        cc)
     by false l false s more = more

@@ -1,10 +1,16 @@
--- What is known of a line that has no fault behind good lines.
-use Rattle.std.proofs.Common.{◌≡◌, Bool, true, false, cond, drop, List, ◌∷◌, Option, Some, None, refl}
+-- What is known of a line that has no fault after good lines.
+use Rattle.std.proofs.Common.{◌≡◌, Bool, true, false, cond, drop, List, ◌∷◌, Option, Some, None}
+use Rattle.std.proofs.Common.{refl}
 use Rattle.std.specs.Prelude.{find, option_map}
 use Rattle.sv_workload.specs.declared.fault.LineFault.{LineFault}
-use Rattle.sv_workload.specs.declared.fault.LineFault.TheVariants.{UnknownWord, Shape, Number, Repeated, TooMany, Unaligned, Misplaced, BadText, NoSuchWriter, ModuleFull}
+use Rattle.sv_workload.specs.declared.fault.LineFault.TheVariants.{UnknownWord, Shape, Number}
+use Rattle.sv_workload.specs.declared.fault.LineFault.TheVariants.{Repeated, TooMany, Unaligned}
+use Rattle.sv_workload.specs.declared.fault.LineFault.TheVariants.{Misplaced, BadText, NoSuchWriter}
+use Rattle.sv_workload.specs.declared.fault.LineFault.TheVariants.{ModuleFull}
 use Rattle.sv_workload.specs.Line.{Line}
-use Rattle.sv_workload.specs.Checks.{Check, checks, fault_of, is_unknown, is_misplaced, is_misshapen, has_bad_number, has_bad_text, is_unaligned, is_repeated, is_too_many, has_no_writer, has_no_room}
+use Rattle.sv_workload.specs.Checks.{Check, checks, fault_of, is_unknown, is_misplaced}
+use Rattle.sv_workload.specs.Checks.{is_misshapen, has_bad_number, has_bad_text, is_unaligned}
+use Rattle.sv_workload.specs.Checks.{is_repeated, is_too_many, has_no_writer, has_no_room}
 
 -- no check finds anything wrong
 pub record Passes (before : List Line) (line : Line) : Type 0 where
@@ -21,13 +27,18 @@ pub record Passes (before : List Line) (line : Line) : Type 0 where
 
 module _ (before : List Line) (line : Line) where
   abbrev found_by : List (Check × LineFault) → Option LineFault
-  found_by rest = option_map (λ (check : Check × LineFault). check.1) (find (λ (check : Check × LineFault). check.0 before line) rest)
+  found_by rest = option_map (λ (check : Check × LineFault). check.1)
+      (find (λ (check : Check × LineFault). check.0 before line) rest)
 
   -- where nothing is found, the first of the checks found nothing, and nor did the others
-  first_passed : (check : Check) (fault : LineFault) (rest : List (Check × LineFault)) → found_by ((check, fault) ∷ rest) ≡ None → (check before line ≡ false) × (found_by rest ≡ None)
-  first_passed check fault rest e = by (check before line) (find (λ (c : Check × LineFault). c.0 before line) rest) e
+  first_passed : (check : Check) (fault : LineFault) (rest : List (Check × LineFault)) → found_by
+      ((check, fault) ∷ rest) ≡ None → (check before line ≡ false) × (found_by rest ≡ None)
+  first_passed check fault rest e = by (check before line)
+      (find (λ (c : Check × LineFault). c.0 before line) rest) e
     where
-      by : (b : Bool) (more : Option (Check × LineFault)) → option_map (λ (c : Check × LineFault). c.1) (cond b (Some (check, fault)) more) ≡ None → (b ≡ false) × (option_map (λ (c : Check × LineFault). c.1) more ≡ None)
+      by : (b : Bool) (more : Option (Check × LineFault)) → option_map
+          (λ (c : Check × LineFault). c.1) (cond b (Some (check, fault)) more) ≡ None → (b ≡ false)
+          × (option_map (λ (c : Check × LineFault). c.1) more ≡ None)
       by true more e = absurd (let found : Some fault ≡ None = e in cc)
       by false more e = (refl, e)
 
@@ -43,4 +54,15 @@ module _ (before : List Line) (line : Line) where
       let i = first_passed is_too_many TooMany (drop 8 checks) h.1 in
       let j = first_passed has_no_writer NoSuchWriter (drop 9 checks) i.1 in
       let k = first_passed has_no_room ModuleFull (drop 10 checks) j.1 in
-      record { known = a.0; placed = b.0; shaped = c.0; numbers = d.0; text = f.0; aligned = g.0; single = h.0; few = i.0; writer = j.0; room = k.0 }
+      record {
+        known = a.0;
+        placed = b.0;
+        shaped = c.0;
+        numbers = d.0;
+        text = f.0;
+        aligned = g.0;
+        single = h.0;
+        few = i.0;
+        writer = j.0;
+        room = k.0;
+      }

@@ -2,7 +2,8 @@
 use Rattle.std.proofs.Common.{◌≡◌, ℕ, ◌-◌, ◌^◌, true, false, [], ◌∷◌, refl, nat_le}
 use Rattle.std.specs.List.{list_any}
 use Rattle.sv_workload.specs.declared.keyword.SetupWord.{SetupWord}
-use Rattle.sv_workload.specs.declared.keyword.SetupWord.TheVariants.{Ring, Clock, Cpu, Base, Shift, Time, Desc, Module, Command}
+use Rattle.sv_workload.specs.declared.keyword.SetupWord.TheVariants.{Ring, Clock, Cpu, Base, Shift}
+use Rattle.sv_workload.specs.declared.keyword.SetupWord.TheVariants.{Time, Desc, Module, Command}
 use Rattle.sv_workload.specs.declared.keyword.SetupWord.TheVariants as setup
 use Rattle.sv_workload.specs.declared.keyword.ActWord.TheVariants.{Start}
 use Rattle.sv_workload.specs.declared.keyword.Keyword.TheVariants as keyword
@@ -27,12 +28,85 @@ pub record TellsOne (word : SetupWord) : Type 0 where
   pub schedule : is_same keyword.Schedule (keyword.Setup word) ≡ false
 
 -- of the words that lines can have by now, all but a task's tell a setting
-pub tells_one : (word : SetupWord) → is_later (keyword.Setup word) ≡ false → (word ≡ setup.Task → ⊥) → TellsOne word
-tells_one Ring now other = record { least = 64; most = 65536; form = refl; low = refl; now = refl; single = refl; itself = refl; task = refl; command = refl; writer = refl; start = refl; schedule = refl }
-tells_one Clock now other = record { least = 1; most = 4294967295; form = refl; low = refl; now = refl; single = refl; itself = refl; task = refl; command = refl; writer = refl; start = refl; schedule = refl }
-tells_one Cpu now other = record { least = 1; most = 4294967295; form = refl; low = refl; now = refl; single = refl; itself = refl; task = refl; command = refl; writer = refl; start = refl; schedule = refl }
-tells_one Base now other = record { least = 0; most = 4294967295; form = refl; low = refl; now = refl; single = refl; itself = refl; task = refl; command = refl; writer = refl; start = refl; schedule = refl }
-tells_one Shift now other = record { least = 0; most = 31; form = refl; low = refl; now = refl; single = refl; itself = refl; task = refl; command = refl; writer = refl; start = refl; schedule = refl }
+pub tells_one : (word : SetupWord) → is_later (keyword.Setup word) ≡ false → (word ≡ setup.Task → ⊥)
+    → TellsOne word
+tells_one Ring now other =
+    record {
+      least = 64;
+      most = 65536;
+      form = refl;
+      low = refl;
+      now = refl;
+      single = refl;
+      itself =
+          refl;
+      task = refl;
+      command = refl;
+      writer = refl;
+      start = refl;
+      schedule = refl;
+    }
+tells_one Clock now other =
+    record {
+      least = 1;
+      most = 4294967295;
+      form = refl;
+      low = refl;
+      now = refl;
+      single = refl;
+      itself = refl;
+      task = refl;
+      command = refl;
+      writer = refl;
+      start = refl;
+      schedule = refl;
+    }
+tells_one Cpu now other =
+    record {
+      least = 1;
+      most = 4294967295;
+      form = refl;
+      low = refl;
+      now = refl;
+      single = refl;
+      itself = refl;
+      task = refl;
+      command = refl;
+      writer = refl;
+      start = refl;
+      schedule = refl;
+    }
+tells_one Base now other =
+    record {
+      least = 0;
+      most = 4294967295;
+      form = refl;
+      low = refl;
+      now = refl;
+      single = refl;
+      itself = refl;
+      task = refl;
+      command = refl;
+      writer = refl;
+      start = refl;
+      schedule = refl;
+    }
+tells_one Shift now other =
+    record {
+      least = 0;
+      most = 31;
+      form = refl;
+      low = refl;
+      now = refl;
+      single = refl;
+      itself =
+          refl;
+      task = refl;
+      command = refl;
+      writer = refl;
+      start = refl;
+      schedule = refl;
+    }
 tells_one setup.Task now other = absurd (other refl)
 tells_one Time now other = absurd (let l : true ≡ false = now in cc)
 tells_one Desc now other = absurd (let l : true ≡ false = now in cc)

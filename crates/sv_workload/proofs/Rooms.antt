@@ -1,15 +1,22 @@
 -- What a draft may take, since the line has no fault, and what it then stands for.
-use Rattle.std.proofs.Common.{◌≡◌, ℕ, ◌+◌, ◌<◌, ◌≤◌, ◌-◌, ◌^◌, cond, drop, Bool, true, false, ◌||◌, ◌&&◌, not, List, [], ◌∷◌, ◌++◌, length, map, take, get_or, Option, Some, None, refl, sym, ap, subst, ◌∙◌, nat_le, arith}
+use Rattle.std.proofs.Common.{◌≡◌, ℕ, ◌+◌, ◌<◌, ◌≤◌, ◌-◌, ◌^◌, cond, drop, Bool, true, false, ◌||◌}
+use Rattle.std.proofs.Common.{◌&&◌, not, List, [], ◌∷◌, ◌++◌, length, map, take, get_or, Option}
+use Rattle.std.proofs.Common.{Some, None, refl, sym, ap, subst, ◌∙◌, nat_le, arith}
 use Rattle.std.specs.List.{list_all, join_with_byte}
 use Rattle.std.specs.Option.{option_map_or}
 use Rattle.std.proofs.lemmas.Bool.{and_parts, leb-true, leb-false}
 use Rattle.sv_workload.specs.declared.load.Step.{Step}
 use Rattle.sv_workload.specs.declared.range.Range.{Range}
 use Rattle.sv_workload.specs.declared.keyword.SetupWord.{SetupWord}
-use Rattle.sv_workload.specs.declared.keyword.SetupWord.TheVariants.{Ring, Clock, Cpu, Base, Shift, Time, Desc, Module, Command}
+use Rattle.sv_workload.specs.declared.keyword.SetupWord.TheVariants.{Ring, Clock, Cpu, Base, Shift}
+use Rattle.sv_workload.specs.declared.keyword.SetupWord.TheVariants.{Time, Desc, Module, Command}
 use Rattle.sv_workload.specs.declared.keyword.SetupWord.TheVariants as setup
 use Rattle.sv_workload.specs.declared.keyword.ActWord.{ActWord}
-use Rattle.sv_workload.specs.declared.keyword.ActWord.TheVariants.{Start, Stop, Nop, Isr, IsrExit, Run, Halt, Ready, Unready, Create, Terminate, Mark, MarkEnd, Idle, Sched, Timer, TimerExit, Name, Print, Call, Return}
+use Rattle.sv_workload.specs.declared.keyword.ActWord.TheVariants.{Start, Stop, Nop, Isr, IsrExit}
+use Rattle.sv_workload.specs.declared.keyword.ActWord.TheVariants.{Run, Halt, Ready, Unready}
+use Rattle.sv_workload.specs.declared.keyword.ActWord.TheVariants.{Create, Terminate, Mark, MarkEnd}
+use Rattle.sv_workload.specs.declared.keyword.ActWord.TheVariants.{Idle, Sched, Timer, TimerExit}
+use Rattle.sv_workload.specs.declared.keyword.ActWord.TheVariants.{Name, Print, Call, Return}
 use Rattle.sv_workload.specs.declared.keyword.TurnWord.{TurnWord}
 use Rattle.sv_workload.specs.declared.keyword.TurnWord.TheVariants as turn
 use Rattle.sv_workload.specs.declared.keyword.Keyword.{Keyword}
@@ -23,8 +30,10 @@ use Rattle.sv_workload.specs.Need.{one_if, is_start_act}
 use Rattle.sv_workload.specs.Settings.{tell, base_told, shift_told}
 use Rattle.sv_workload.specs.Scripts.{over_scripts}
 use Rattle.sv_workload.specs.Fit.{IsFit}
-use Rattle.sv_workload.specs.Meaning.{says, count, number, act_of, with_shrunk, step_by, base_of, shift_of}
-use Rattle.sv_workload.specs.Checks.{count_of, is_step, is_turn, is_all_there, is_within, are_within, fits, fits_command}
+use Rattle.sv_workload.specs.Meaning.{says, count, number, act_of, with_shrunk, step_by, base_of}
+use Rattle.sv_workload.specs.Meaning.{shift_of}
+use Rattle.sv_workload.specs.Checks.{count_of, is_step, is_turn, is_all_there, is_within}
+use Rattle.sv_workload.specs.Checks.{are_within, fits, fits_command}
 use Rattle.sv_workload.specs.Draft.{Draft, Stands, is_later}
 use Rattle.sv_workload.proofs.Capping.{number_or_0, numbers_behind, capped_low, in_ranges}
 use Rattle.sv_workload.proofs.Passed.{Passes}
@@ -33,15 +42,22 @@ use Rattle.sv_workload.proofs.Standing.{tasks_count, scripts_count, turns_count}
 use Rattle.sv_workload.proofs.Growing.{neither, start_word, stands-setting}
 
 pub fit_of : (lines : List Line) (line : Line) → Passes lines line → IsFit line
-fit_of lines line passed = record { shape = passed.shaped; numbers = passed.numbers; text = passed.text }
+fit_of lines line passed =
+    record { shape = passed.shaped; numbers = passed.numbers; text = passed.text }
 
 fewer : (limit n : ℕ) → nat_le limit n ≡ false → n < limit
 fewer limit n e = omega (arith, leb-false limit n e)
 
--- what is left of the limits behind lines for a step with this word
+-- what is left of the limits after lines for a step with this word
 acts_left : (lines : List Line) (word : ActWord) → is_all_there lines (keyword.Act word) ≡ false
-    → (nat_le 1048576 (count_of is_step lines) ≡ false) × (is_same (keyword.Act Start) (keyword.Act word) ≡ true → nat_le 256 (count (keyword.Act Start) lines) ≡ false)
-acts_left lines Start e = (neither _ _ e, λ is. or_right (nat_le 1048576 (count_of is_step lines)) (nat_le 256 (count (keyword.Act Start) lines)) e)
+    → (nat_le 1048576 (count_of is_step lines) ≡ false) ×
+    (is_same (keyword.Act Start) (keyword.Act word) ≡ true → nat_le 256
+    (count (keyword.Act Start) lines) ≡ false)
+acts_left lines Start e = (
+  neither _ _ e,
+  λ is. or_right (nat_le 1048576 (count_of is_step lines))
+      (nat_le 256 (count (keyword.Act Start) lines)) e,
+)
   where
     or_right : (a b : Bool) → (a || b) ≡ false → b ≡ false
     or_right true b e = cc
@@ -70,32 +86,43 @@ acts_left lines Return e = (e, λ is. cc)
 module _ (old : Draft) (lines : List Line) (line : Line) (stands : Stands old lines) (passed : Passes lines line) where
   pub room_for_task : line.keyword ≡ keyword.Setup setup.Task → length old.tasks < 32
   room_for_task e =
-      let left : count (keyword.Setup setup.Task) lines < 32 = fewer 32 (count (keyword.Setup setup.Task) lines) (rw e at passed.few) in
+      let left : count (keyword.Setup setup.Task) lines < 32 = fewer 32
+      (count (keyword.Setup setup.Task) lines) (rw e at passed.few) in
       omega (arith, left, ap length stands.tasks, tasks_count lines)
 
   pub room_for_writer : line.keyword ≡ keyword.Writer → length old.scripts < 16
   room_for_writer e =
-      let left : count keyword.Writer lines < 16 = fewer 16 (count keyword.Writer lines) (rw e at passed.few) in
+      let left : count keyword.Writer lines < 16 = fewer 16 (count keyword.Writer lines)
+      (rw e at passed.few) in
       omega (arith, left, ap length stands.scripts, scripts_count lines)
 
-  pub room_for_step : (word : ActWord) → line.keyword ≡ keyword.Act word → over_scripts (λ s. 1) old.scripts < 1048576
+  pub room_for_step : (word : ActWord) → line.keyword ≡ keyword.Act word → over_scripts (λ s. 1)
+      old.scripts < 1048576
   room_for_step word e =
-      let left : count_of is_step lines < 1048576 = fewer 1048576 (count_of is_step lines) (acts_left lines word (rw e at passed.few)).0 in
+      let left : count_of is_step lines < 1048576 = fewer 1048576 (count_of is_step lines)
+      (acts_left lines word (rw e at passed.few)).0 in
       omega (arith, left, stands.steps)
 
-  pub room_for_start : (word : ActWord) (step : Step) (base shift : ℕ) → line.keyword ≡ keyword.Act word → Some step ≡ step_by line.keyword base shift line
-      → is_start_act step.act ≡ true → over_scripts (λ s. one_if (is_start_act s.act)) old.scripts < 256
+  pub room_for_start : (word : ActWord) (step : Step) (base shift : ℕ) → line.keyword ≡ keyword.Act
+      word → Some step ≡ step_by line.keyword base shift line
+      → is_start_act step.act ≡ true → over_scripts (λ s. one_if (is_start_act s.act)) old.scripts <
+      256
   room_for_start word step base shift e is starts =
       let ns = with_shrunk (form_of (keyword.Act word)).identifier base shift (numbers_of line) in
-      let made : Some step ≡ step_by (keyword.Act word) base shift line = subst (λ (k : Keyword). Some step ≡ step_by k base shift line) e is in
+      let made : Some step ≡ step_by (keyword.Act word) base shift line = subst
+      (λ (k : Keyword). Some step ≡ step_by k base shift line) e is in
       let act : step.act ≡ act_of word ns (text_of line) = cc in
-      let same : is_same (keyword.Act Start) (keyword.Act word) ≡ true = sym (ap is_start_act act ∙ start_word word ns (text_of line)) ∙ starts in
-      let left : count (keyword.Act Start) lines < 256 = fewer 256 (count (keyword.Act Start) lines) ((acts_left lines word (rw e at passed.few)).1 same) in
+      let same : is_same (keyword.Act Start) (keyword.Act word) ≡ true = sym
+      (ap is_start_act act ∙ start_word word ns (text_of line)) ∙ starts in
+      let left : count (keyword.Act Start) lines < 256 = fewer 256 (count (keyword.Act Start) lines)
+      ((acts_left lines word (rw e at passed.few)).1 same) in
       omega (arith, left, stands.starts)
 
-  pub room_for_turn : (word : TurnWord) → line.keyword ≡ keyword.Turn word → length old.schedule < 1048576
+  pub room_for_turn : (word : TurnWord) → line.keyword ≡ keyword.Turn word → length old.schedule <
+      1048576
   room_for_turn word e =
-      let left : count_of is_turn lines < 1048576 = fewer 1048576 (count_of is_turn lines) (rw e at passed.few) in
+      let left : count_of is_turn lines < 1048576 = fewer 1048576 (count_of is_turn lines)
+      (rw e at passed.few) in
       omega (arith, left, ap length stands.schedule, turns_count lines)
 
   pub base_is : base_told old.settings ≡ base_of lines
@@ -105,11 +132,15 @@ module _ (old : Draft) (lines : List Line) (line : Line) (stands : Stands old li
   shift_is = ap shift_told stands.settings
 
 -- the one number of a setting is of its range
-one_in : (range : Range) (words : List (List ℕ)) → nat_le 1 (length words) ≡ true → are_within (range ∷ []) words ≡ true → is_in range (get_or (map number_or_0 (take 1 words)) 0 0) ≡ true
+one_in : (range : Range) (words : List (List ℕ)) → nat_le 1 (length words) ≡ true
+    → are_within (range ∷ []) words ≡ true
+    → is_in range (get_or (map number_or_0 (take 1 words)) 0 0) ≡ true
 one_in range [] some within = cc
-one_in range (word ∷ words) some within = of (number_of word) (and_parts (is_within range word) true within).0
+one_in range (word ∷ words) some within =
+    of (number_of word) (and_parts (is_within range word) true within).0
   where
-    of : (n : Option ℕ) → option_map_or (is_in range) n false ≡ true → is_in range (option_map_or (λ k. k) n 0) ≡ true
+    of : (n : Option ℕ) → option_map_or (is_in range) n false ≡ true → is_in range
+        (option_map_or (λ k. k) n 0) ≡ true
     of None e = absurd (let l : false ≡ true = e in cc)
     of (Some n) e = e
 
@@ -117,50 +148,88 @@ first_and : (a b c : Bool) → not (a && b && c) ≡ false → a ≡ true
 first_and true b c e = refl
 first_and false b c e = cc
 
-low_in : (least most n : ℕ) → nat_le most (2 ^ 32 - 1) ≡ true → is_in (between least most) n ≡ true → n < 2 ^ 32
-low_in least most n low e = omega (arith, leb-true most (2 ^ 32 - 1) low, leb-true n most (and_parts (nat_le least n) (nat_le n most) e).1)
+low_in : (least most n : ℕ) → nat_le most (2 ^ 32 - 1) ≡ true → is_in (between least most) n ≡ true
+    → n < 2 ^ 32
+low_in least most n low e =
+    omega (
+      arith,
+      leb-true most (2 ^ 32 - 1) low,
+      leb-true n most
+          (and_parts (nat_le least n) (nat_le n most) e).1,
+    )
 
 -- the line tells a setting, whose number is of its range and is kept as it is
 pub record Tells (line : Line) (word : SetupWord) : Type 0 where
-  pub range : list_all (λ range. is_in range (capped (number line 0))) (form_of (keyword.Setup word)).numbers ≡ true
+  pub range : list_all (λ range. is_in range (capped (number line 0)))
+      (form_of (keyword.Setup word)).numbers ≡ true
   pub same : capped (number line 0) ≡ number line 0
 
-pub tells : (line : Line) (word : SetupWord) → IsFit line → TellsOne word → line.keyword ≡ keyword.Setup word → Tells line word
+pub tells : (line : Line) (word : SetupWord) → IsFit line → TellsOne word
+    → line.keyword ≡ keyword.Setup word → Tells line word
 tells line word fit is e =
     let range = between is.least is.most in
-    let shape = subst (λ (k : Keyword). not (cond (is_same (keyword.Setup Command) k) (fits_command line.words) (fits (form_of k) line.words (join_with_byte 32 (drop (length (form_of k).numbers) line.words)))) ≡ false) e fit.shape in
-    let fitting = subst (λ (b : Bool). not (cond b (fits_command line.words) (fits (form_of (keyword.Setup word)) line.words (join_with_byte 32 (drop (length (form_of (keyword.Setup word)).numbers) line.words)))) ≡ false) is.command shape in
-    let filled : nat_le 1 (length line.words) ≡ true = first_and _ _ _ (subst (λ (f : Form). not (fits f line.words (join_with_byte 32 (drop (length f.numbers) line.words))) ≡ false) is.form fitting) in
-    let within : are_within (range ∷ []) line.words ≡ true = subst (λ (f : Form). are_within (f.numbers ++ f.more) line.words ≡ true) is.form (in_ranges line (keyword.Setup word) e fit) in
+    let shape = subst (λ (k : Keyword). not
+    (cond (is_same (keyword.Setup Command) k) (fits_command line.words)
+    (fits (form_of k) line.words
+    (join_with_byte 32 (drop (length (form_of k).numbers) line.words)))) ≡ false) e fit.shape in
+    let fitting = subst (λ (b : Bool). not
+    (cond b (fits_command line.words)
+    (fits (form_of (keyword.Setup word)) line.words
+    (join_with_byte 32 (drop (length (form_of (keyword.Setup word)).numbers) line.words)))) ≡
+    false) is.command shape in
+    let filled : nat_le 1 (length line.words) ≡ true = first_and _ _ _
+    (subst (λ (f : Form). not
+    (fits f line.words (join_with_byte 32 (drop (length f.numbers) line.words))) ≡ false)
+    is.form fitting) in
+    let within : are_within (range ∷ []) line.words ≡ true = subst
+    (λ (f : Form). are_within (f.numbers ++ f.more) line.words ≡ true) is.form
+    (in_ranges line (keyword.Setup word) e fit) in
     let form : form_of line.keyword ≡ numbers (range ∷ []) = ap form_of e ∙ is.form in
     let inside : is_in range (number line 0) ≡ true =
-    subst (λ (f : Form). is_in range (get_or (map number_or_0 (take (length f.numbers + length f.more) line.words)) 0 0) ≡ true) (sym form) (one_in range line.words filled within) in
-    let same : capped (number line 0) ≡ number line 0 = capped_low (number line 0) (low_in is.least is.most (number line 0) is.low inside) in
-    let kept : list_all (λ (r : Range). is_in r (capped (number line 0))) (range ∷ []) ≡ true = rw (same, inside) refl in
-    record { range = subst (λ (f : Form). list_all (λ (r : Range). is_in r (capped (number line 0))) f.numbers ≡ true) (sym is.form) kept; same = same }
+    subst (λ (f : Form). is_in range
+    (get_or (map number_or_0 (take (length f.numbers + length f.more) line.words)) 0 0) ≡ true)
+    (sym form) (one_in range line.words filled within) in
+    let same : capped (number line 0) ≡ number line 0 = capped_low (number line 0)
+    (low_in is.least is.most (number line 0) is.low inside) in
+    let kept : list_all (λ (r : Range). is_in r (capped (number line 0))) (range ∷ []) ≡ true = rw
+    (same, inside) refl in
+    record {
+      range = subst (λ (f : Form). list_all (λ (r : Range). is_in r (capped (number line 0)))
+          f.numbers ≡ true) (sym is.form) kept;
+      same = same;
+    }
 
 -- a draft with one more setting
 module _ (old : Draft) (lines : List Line) (line : Line) (stands : Stands old lines) (passed : Passes lines line) where
-  pub told : (word : SetupWord) → TellsOne word → line.keyword ≡ keyword.Setup word → Stands (record old { settings = tell word (capped (number line 0)) old.settings }) (lines ++ line ∷ [])
+  pub told : (word : SetupWord) → TellsOne word → line.keyword ≡ keyword.Setup word → Stands
+      (record old { settings = tell word (capped (number line 0)) old.settings })
+      (lines ++ line ∷ [])
   told word is e =
-      subst (λ (n : ℕ). Stands (record old { settings = tell word n old.settings }) (lines ++ line ∷ [])) (sym (tells line word (fit_of lines line passed) is e).same) (stands-setting old lines line stands passed word is e)
+      subst (λ (n : ℕ). Stands (record old { settings = tell word n old.settings })
+      (lines ++ line ∷ [])) (sym (tells line word (fit_of lines line passed) is e).same)
+      (stands-setting old lines line stands passed word is e)
 
 second_false : (a b : Bool) → a ≡ true → (a && b) ≡ false → b ≡ false
 second_false true b t e = e
 second_false false b t e = cc
 
 -- a turn's writer is there
-pub less_than_writers : (old : Draft) (lines : List Line) (line : Line) → Stands old lines → Passes lines line → line.keyword ≡ keyword.Turn turn.Step → number line 0 < length old.scripts
+pub less_than_writers : (old : Draft) (lines : List Line) (line : Line) → Stands old lines
+    → Passes lines line → line.keyword ≡ keyword.Turn turn.Step → number line 0 < length old.scripts
 less_than_writers old lines line stands passed e =
     let turn : says (keyword.Turn turn.Step) line ≡ true = rw e refl in
-    let left : number line 0 < count keyword.Writer lines = fewer (count keyword.Writer lines) (number line 0) (second_false _ _ turn passed.writer) in
+    let left : number line 0 < count keyword.Writer lines = fewer (count keyword.Writer lines)
+    (number line 0) (second_false _ _ turn passed.writer) in
     omega (arith, left, ap length stands.scripts, scripts_count lines)
 
 -- a read takes a number of its range
-pub read_inside : (line : Line) → IsFit line → line.keyword ≡ keyword.Turn turn.Read → is_in (between 1 65536) (number line 0) ≡ true
+pub read_inside : (line : Line) → IsFit line → line.keyword ≡ keyword.Turn turn.Read
+    → is_in (between 1 65536) (number line 0) ≡ true
 read_inside line fit e =
     let filled : nat_le 1 (length line.words) ≡ true = first_and _ _ _ (rw e at fit.shape) in
-    subst (λ (k : Keyword). is_in (between 1 65536) (get_or (numbers_behind k line.words) 0 0) ≡ true) (sym e) (one_in (between 1 65536) line.words filled (in_ranges line (keyword.Turn turn.Read) e fit))
+    subst (λ (k : Keyword). is_in (between 1 65536) (get_or (numbers_behind k line.words) 0 0) ≡
+    true) (sym e) (one_in (between 1 65536) line.words filled
+    (in_ranges line (keyword.Turn turn.Read) e fit))
 
 -- a writer's number is small, since the writer is there
 module _ (old : Draft) (lines : List Line) (line : Line) (stands : Stands old lines) (passed : Passes lines line) (few : length old.scripts ≤ 16) (fit : IsFit line) where
@@ -170,7 +239,8 @@ module _ (old : Draft) (lines : List Line) (line : Line) (stands : Stands old li
   low_read : line.keyword ≡ keyword.Turn turn.Read → number line 0 < 2 ^ 32
   low_read e = low_in 1 65536 (number line 0) refl (read_inside line fit e)
 
-  pub low_turn : (word : TurnWord) → line.keyword ≡ keyword.Turn word → is_later line.keyword ≡ false → number line 0 < 2 ^ 32
+  pub low_turn : (word : TurnWord) → line.keyword ≡ keyword.Turn word → is_later line.keyword ≡
+      false → number line 0 < 2 ^ 32
   low_turn turn.Step e now = low_step e
   low_turn turn.Read e now = low_read e
   low_turn turn.Send e now = absurd (let l : true ≡ false = (rw e at now) in cc)

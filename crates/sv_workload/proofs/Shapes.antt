@@ -1,5 +1,7 @@
 -- Words that are taken off the front of a line, one by one.
-use Rattle.std.proofs.Common.{◌≡◌, ℕ, ◌<◌, zero, suc, ◌+◌, Bool, true, ◌&&◌, List, ◌∷◌, length, false, Option, Some, None, take, drop, nat_le, refl, sym, ap, ◌∙◌, arith}
+use Rattle.std.proofs.Common.{◌≡◌, ℕ, ◌<◌, zero, suc, ◌+◌, Bool, true, ◌&&◌, List, ◌∷◌, length}
+use Rattle.std.proofs.Common.{false, Option, Some, None, take, drop, nat_le, refl, sym, ap, ◌∙◌}
+use Rattle.std.proofs.Common.{arith}
 use Rattle.std.proofs.lemmas.Bool.Decides.{leb_tells}
 use Rattle.std.proofs.lemmas.List.{take-append-drop, length-drop, drop_all}
 use Rattle.std.proofs.lemmas.List.Folds.{list_all-append}
@@ -17,51 +19,82 @@ abbrev pub is_few_filled : ℕ → List (List ℕ) → Bool
 is_few_filled most words = nat_le (length words) most && list_all is_word words
 
 -- one more word at the front
-pub filled_more : (k n : ℕ) (word : List ℕ) (words : List (List ℕ)) → k ≡ n + 1 → is_word word ≡ true → begins_filled k (word ∷ words) ≡ begins_filled n words
+pub filled_more : (k n : ℕ) (word : List ℕ) (words : List (List ℕ)) → k ≡ n + 1
+    → is_word word ≡ true → begins_filled k (word ∷ words) ≡ begins_filled n words
 filled_more zero n word words e filled = absurd (omega (arith, e))
 filled_more (suc k) n word words e filled =
     let same : k ≡ n = omega (arith, e) in
-    ap (λ (t : Bool). t && list_all is_word (take (suc k) (word ∷ words))) (leb-suc-suc k (length words))
+    ap (λ (t : Bool). t && list_all is_word (take (suc k) (word ∷ words)))
+    (leb-suc-suc k (length words))
     ∙ ap (λ (t : Bool). nat_le k (length words) && (t && list_all is_word (take k words))) filled
     ∙ ap (λ (m : ℕ). begins_filled m words) same
 
--- what is behind one more word
-pub drop_more : (k n : ℕ) (word : List ℕ) (words : List (List ℕ)) → k ≡ n + 1 → drop k (word ∷ words) ≡ drop n words
+-- what is after one more word
+pub drop_more : (k n : ℕ) (word : List ℕ) (words : List (List ℕ)) → k ≡ n + 1
+    → drop k (word ∷ words) ≡ drop n words
 drop_more zero n word words e = absurd (omega (arith, e))
 drop_more (suc k) n word words e =
     let same : k ≡ n = omega (arith, e) in
     ap (λ (m : ℕ). drop m words) same
 
 -- the words that are wanted and those that may follow, looked at one after another
-pub filled_then_few : (n m : ℕ) (words : List (List ℕ)) → (nat_le n (length words) && nat_le (length words) (n + m) && list_all is_word words) ≡ (begins_filled n words && is_few_filled m (drop n words))
+pub filled_then_few : (n m : ℕ) (words : List (List ℕ))
+    → (nat_le n (length words) && nat_le (length words) (n + m) && list_all is_word words) ≡
+    (begins_filled n words && is_few_filled m (drop n words))
 filled_then_few n m words =
-    let whole : list_all is_word words ≡ (list_all is_word (take n words) && list_all is_word (drop n words)) = ap (list_all is_word) (sym (take-append-drop n words)) ∙ list_all-append is_word (take n words) (drop n words) in
-    grind (arith, whole, length-drop n words, leb_tells n (length words), leb_tells (length words) (n + m), leb_tells (length (drop n words)) m)
+    let whole : list_all is_word words ≡
+    (list_all is_word (take n words) && list_all is_word (drop n words)) = ap (list_all is_word)
+    (sym (take-append-drop n words)) ∙ list_all-append is_word (take n words) (drop n words) in
+    grind (
+      arith,
+      whole,
+      length-drop n words,
+      leb_tells n (length words),
+      leb_tells (length words)
+          (n + m),
+      leb_tells (length (drop n words)) m,
+    )
 
--- a text behind fewer words than are wanted is empty
-none_behind : (n : ℕ) (words : List (List ℕ)) → length words < n → is_word (join_with_byte 32 (drop n words)) ≡ false
-none_behind n words few = ap (λ (l : List (List ℕ)). is_word (join_with_byte 32 l)) (drop_all n words (omega (arith, few)))
+-- a text after fewer words than are wanted is empty
+none_behind : (n : ℕ) (words : List (List ℕ)) → length words < n
+    → is_word (join_with_byte 32 (drop n words)) ≡ false
+none_behind n words few =
+    ap (λ (l : List (List ℕ)). is_word (join_with_byte 32 l))
+    (drop_all n words (omega (arith, few)))
 
--- the words that are wanted, and a text behind them
-pub filled_then_text : (n : ℕ) (words : List (List ℕ)) → (list_all is_word (take n words) && is_word (join_with_byte 32 (drop n words))) ≡ (begins_filled n words && is_word (join_with_byte 32 (drop n words)))
+-- the words that are wanted, and a text after them
+pub filled_then_text : (n : ℕ) (words : List (List ℕ))
+    → (list_all is_word (take n words) && is_word (join_with_byte 32 (drop n words))) ≡
+    (begins_filled n words && is_word (join_with_byte 32 (drop n words)))
 filled_then_text n words = grind (arith, none_behind n words, leb_tells n (length words))
 
 -- a form with a text
 pub fits_text : (form : Form) (most : ℕ) (words : List (List ℕ)) → form.text ≡ Some most
-    → fits form words (join_with_byte 32 (drop (length form.numbers) words)) ≡ (begins_filled (length form.numbers) words && is_word (join_with_byte 32 (drop (length form.numbers) words)))
+    → fits form words (join_with_byte 32 (drop (length form.numbers) words)) ≡
+    (begins_filled (length form.numbers) words && is_word
+    (join_with_byte 32 (drop (length form.numbers) words)))
 fits_text form most words e = rw e (filled_then_text (length form.numbers) words)
 
 -- a form without a text
 pub fits_words : (form : Form) (words : List (List ℕ)) → form.text ≡ None
-    → fits form words (join_with_byte 32 (drop (length form.numbers) words)) ≡ (begins_filled (length form.numbers) words && is_few_filled (length form.more) (drop (length form.numbers) words))
+    → fits form words (join_with_byte 32 (drop (length form.numbers) words)) ≡
+    (begins_filled (length form.numbers) words && is_few_filled (length form.more)
+    (drop (length form.numbers) words))
 fits_words form words e = rw e (filled_then_few (length form.numbers) (length form.more) words)
 
 -- with a word that is missing or empty no form is met
-fits_not : (form : Form) (text : Option ℕ) (words : List (List ℕ)) → form.text ≡ text → begins_filled (length form.numbers) words ≡ false
+fits_not : (form : Form) (text : Option ℕ) (words : List (List ℕ)) → form.text ≡ text
+    → begins_filled (length form.numbers) words ≡ false
     → fits form words (join_with_byte 32 (drop (length form.numbers) words)) ≡ false
-fits_not form (Some most) words e bad = fits_text form most words e ∙ ap (λ (t : Bool). t && is_word (join_with_byte 32 (drop (length form.numbers) words))) bad
-fits_not form None words e bad = fits_words form words e ∙ ap (λ (t : Bool). t && is_few_filled (length form.more) (drop (length form.numbers) words)) bad
+fits_not form (Some most) words e bad =
+    fits_text form most words e ∙ ap
+    (λ (t : Bool). t && is_word (join_with_byte 32 (drop (length form.numbers) words))) bad
+fits_not form None words e bad =
+    fits_words form words e ∙ ap
+    (λ (t : Bool). t && is_few_filled (length form.more) (drop (length form.numbers) words)) bad
 
 -- the same for any form
-pub is_no_fit : (form : Form) (words : List (List ℕ)) → begins_filled (length form.numbers) words ≡ false → fits form words (join_with_byte 32 (drop (length form.numbers) words)) ≡ false
+pub is_no_fit : (form : Form) (words : List (List ℕ))
+    → begins_filled (length form.numbers) words ≡ false
+    → fits form words (join_with_byte 32 (drop (length form.numbers) words)) ≡ false
 is_no_fit form words bad = fits_not form form.text words refl bad

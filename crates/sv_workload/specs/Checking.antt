@@ -1,12 +1,15 @@
 -- The checks of a line by what a draft of the lines before it holds.
-use Rattle.std.specs.Prelude.{ℕ, nat_lt, nat_le, ◌==◌, Bool, true, false, ◌||◌, List, length, take, drop, find, Option, option_map}
+use Rattle.std.specs.Prelude.{ℕ, nat_lt, nat_le, ◌==◌, Bool, true, false, ◌||◌, List, length, take}
+use Rattle.std.specs.Prelude.{drop, find, Option, option_map}
 use Rattle.std.specs.List.{list_any}
 use Rattle.std.specs.Option.{is_some}
-use Rattle.sv_workload.specs.declared.keyword.SetupWord.TheVariants.{Ring, Clock, Cpu, Base, Shift, Task as a_task}
+use Rattle.sv_workload.specs.declared.keyword.SetupWord.TheVariants.{Ring, Clock, Cpu, Base, Shift}
+use Rattle.sv_workload.specs.declared.keyword.SetupWord.TheVariants.{Task as a_task}
 use Rattle.sv_workload.specs.declared.keyword.ActWord.TheVariants.{Start}
 use Rattle.sv_workload.specs.declared.keyword.TurnWord.TheVariants.{Step}
 use Rattle.sv_workload.specs.declared.keyword.Keyword.{Keyword}
-use Rattle.sv_workload.specs.declared.keyword.Keyword.TheVariants.{Setup, Writer, Act, Turn, Unknown}
+use Rattle.sv_workload.specs.declared.keyword.Keyword.TheVariants.{Setup, Writer, Act, Turn}
+use Rattle.sv_workload.specs.declared.keyword.Keyword.TheVariants.{Unknown}
 use Rattle.sv_workload.specs.declared.fault.LineFault.{LineFault}
 use Rattle.sv_workload.specs.declared.settings.Settings.{Settings}
 use Rattle.sv_workload.specs.Need.{one_if, is_start_act}
@@ -14,6 +17,7 @@ use Rattle.sv_workload.specs.Scripts.{over_scripts}
 use Rattle.sv_workload.specs.Line.{Line}
 use Rattle.sv_workload.specs.Checks.{Check, checks, may_stand}
 use Rattle.sv_workload.specs.Draft.{Draft}
+use Rattle.sv_workload.specs.Limits.{most_steps}
 
 -- what the first of these checks that a line fails finds wrong
 abbrev pub first_of : List (Check × LineFault) → List Line → Line → Option LineFault
@@ -23,7 +27,7 @@ first_of some before line = option_map (λ check. check.1) (find (λ check. chec
 abbrev pub form_checks : List (Check × LineFault)
 form_checks = take 5 checks
 
--- the checks of what a line says behind the lines before it
+-- the checks of what a line says after the lines before it
 abbrev pub later_checks : List (Check × LineFault)
 later_checks = drop 5 checks
 
@@ -31,9 +35,11 @@ abbrev pub is_no_keyword : Keyword → Bool
 is_no_keyword Unknown = true
 is_no_keyword _ = false
 
--- the keyword may stand behind what the draft holds
+-- the keyword may stand after what the draft holds
 abbrev pub has_place : Draft → Keyword → Bool
-has_place draft keyword = may_stand (nat_lt 0 (length draft.scripts)) (nat_lt 0 (length draft.tasks)) draft.scheduled keyword
+has_place draft keyword =
+    may_stand (nat_lt 0 (length draft.scripts)) (nat_lt 0 (length draft.tasks)) draft.scheduled
+    keyword
 
 -- the keyword's setting was told
 abbrev pub is_told : Settings → Keyword → Bool
@@ -46,15 +52,17 @@ is_told settings _ = false
 
 -- no further step is within the limits
 abbrev pub has_all_steps : Draft → Bool
-has_all_steps draft = nat_le 1048576 (over_scripts (λ s. 1) draft.scripts)
+has_all_steps draft = nat_le most_steps (over_scripts (λ s. 1) draft.scripts)
 
 -- no further line with this keyword is within the limits
 abbrev pub has_all : Draft → Keyword → Bool
 has_all draft (Setup a_task) = nat_le 32 (length draft.tasks)
 has_all draft Writer = nat_le 16 (length draft.scripts)
-has_all draft (Act Start) = has_all_steps draft || nat_le 256 (over_scripts (λ s. one_if (is_start_act s.act)) draft.scripts)
+has_all draft (Act Start) =
+    has_all_steps draft || nat_le 256
+    (over_scripts (λ s. one_if (is_start_act s.act)) draft.scripts)
 has_all draft (Act word) = has_all_steps draft
-has_all draft (Turn word) = nat_le 1048576 (length draft.schedule)
+has_all draft (Turn word) = nat_le most_steps (length draft.schedule)
 has_all draft _ = false
 
 -- the keyword's setting was told, or a task with this identifier was

@@ -1,16 +1,24 @@
 -- What is asked of a line, given the lines before it, all of which are good.
-use Rattle.std.specs.Prelude.{ℕ, ◌+◌, ◌%◌, ◌^◌, nat_lt, nat_le, ◌==◌, Bool, true, false, not, ◌&&◌, ◌||◌, List, [], ◌∷◌, ◌++◌, length, map, take, count_by, find, Option, option_map, if◌then◌else◌}
+use Rattle.std.specs.Prelude.{ℕ, ◌+◌, ◌%◌, ◌^◌, nat_lt, nat_le, ◌==◌, Bool, true, false, not, ◌&&◌}
+use Rattle.std.specs.Prelude.{◌||◌, List, [], ◌∷◌, ◌++◌, length, map, take, count_by, find, Option}
+use Rattle.std.specs.Prelude.{option_map, if◌then◌else◌}
 use Rattle.std.specs.List.{list_all, list_any}
 use Rattle.std.specs.Option.{option_map_or}
 use Rattle.sv_prim.specs.Shrink.{offset_from}
 use Rattle.sv_workload.specs.declared.fault.LineFault.{LineFault}
-use Rattle.sv_workload.specs.declared.fault.LineFault.TheVariants.{UnknownWord, Shape, Number, Repeated, TooMany, Unaligned, Misplaced, BadText, NoSuchWriter, ModuleFull}
+use Rattle.sv_workload.specs.declared.fault.LineFault.TheVariants.{UnknownWord, Shape, Number}
+use Rattle.sv_workload.specs.declared.fault.LineFault.TheVariants.{Repeated, TooMany, Unaligned}
+use Rattle.sv_workload.specs.declared.fault.LineFault.TheVariants.{Misplaced, BadText, NoSuchWriter}
+use Rattle.sv_workload.specs.declared.fault.LineFault.TheVariants.{ModuleFull}
 use Rattle.sv_workload.specs.declared.keyword.SetupWord.{SetupWord}
-use Rattle.sv_workload.specs.declared.keyword.SetupWord.TheVariants.{Ring, Clock, Cpu, Base, Shift, Time, Desc, Task, Module, Command}
+use Rattle.sv_workload.specs.declared.keyword.SetupWord.TheVariants.{Ring, Clock, Cpu, Base, Shift}
+use Rattle.sv_workload.specs.declared.keyword.SetupWord.TheVariants.{Time, Desc, Task, Module}
+use Rattle.sv_workload.specs.declared.keyword.SetupWord.TheVariants.{Command}
 use Rattle.sv_workload.specs.declared.keyword.ActWord.TheVariants.{Start}
 use Rattle.sv_workload.specs.declared.keyword.TurnWord.TheVariants.{Step}
 use Rattle.sv_workload.specs.declared.keyword.Keyword.{Keyword}
-use Rattle.sv_workload.specs.declared.keyword.Keyword.TheVariants.{Setup, Writer, Act, Schedule, Turn, Unknown}
+use Rattle.sv_workload.specs.declared.keyword.Keyword.TheVariants.{Setup, Writer, Act, Schedule}
+use Rattle.sv_workload.specs.declared.keyword.Keyword.TheVariants.{Turn, Unknown}
 use Rattle.sv_workload.specs.declared.range.Range.{Range}
 use Rattle.sv_workload.specs.declared.load.ModuleRow.{ModuleRow}
 use Rattle.sv_workload.specs.Keywords.{is_same}
@@ -18,9 +26,11 @@ use Rattle.sv_workload.specs.Forms.{between, is_in, Form, form_of}
 use Rattle.sv_workload.specs.Words.{number_of}
 use Rattle.sv_workload.specs.Line.{Line, text_of}
 use Rattle.sv_workload.specs.Load.{offset_after}
-use Rattle.sv_workload.specs.Meaning.{says, count, is_there, number, base_of, shift_of, tasks_of, modules_of}
+use Rattle.sv_workload.specs.Meaning.{says, count, is_there, number, base_of, shift_of, tasks_of}
+use Rattle.sv_workload.specs.Meaning.{modules_of}
+use Rattle.sv_workload.specs.Limits.{most_steps, most_starts, most_writers, most_ticks}
 
--- a test of a line behind other lines; it is true of a line that fails
+-- a test of a line after other lines; it is true of a line that fails
 abbrev pub Check : Type 0
 Check = List Line → Line → Bool
 
@@ -34,8 +44,9 @@ sets_identifiers Base = true
 sets_identifiers Shift = true
 sets_identifiers _ = false
 
--- whether a keyword may follow: a text is settings first, then writers with their steps, then the schedule, and how
--- identifiers are shrunk is told before the first task. The tests are for a writer, a task and the schedule before it
+-- whether a keyword may follow: a text is settings first, then writers with their steps, then the
+-- schedule, and how identifiers are shrunk is told before the first task. The tests are for a
+-- writer, a task and the schedule before it
 abbrev pub may_stand : Bool → Bool → Bool → Keyword → Bool
 may_stand writer task schedule (Setup word) = not writer && not (sets_identifiers word && task)
 may_stand writer task schedule Writer = not schedule
@@ -46,26 +57,35 @@ may_stand writer task schedule Unknown = false
 
 -- it stands in another part of the text than its own
 abbrev pub is_misplaced : Check
-is_misplaced before line = not (may_stand (is_there Writer before) (is_there (Setup Task) before) (is_there Schedule before) line.keyword)
+is_misplaced before line =
+    not (may_stand (is_there Writer before) (is_there (Setup Task) before)
+    (is_there Schedule before) line.keyword)
 
 abbrev pub is_word : List ℕ → Bool
 is_word word = nat_lt 0 (length word)
 
--- the words are as many as the form has numbers, and none is empty. With a text only those before it count
+-- the words are as many as the form has numbers, and none is empty. With a text only those before
+-- it count
 abbrev pub fits : Form → List (List ℕ) → List ℕ → Bool
 fits form words text = option_map_or
     (λ most. list_all is_word (take (length form.numbers) words) && is_word text)
     form.text
-    (nat_le (length form.numbers) (length words) && nat_le (length words) (length form.numbers + length form.more) && list_all is_word words)
+    (nat_le (length form.numbers) (length words) && nat_le (length words)
+    (length form.numbers + length form.more) && list_all is_word words)
 
--- the words of a command: from the byte 128 on there is a parameter. A byte that is no number is left to the next check
+-- the words of a command: from the byte 128 on there is a parameter. A byte that is no number is
+-- left to the next check
 abbrev pub fits_command : List (List ℕ) → Bool
 fits_command [] = false
-fits_command (byte ∷ params) = option_map_or (λ n. list_all is_word params && (length params == (if nat_lt n 128 then 0 else 1))) (number_of byte) true
+fits_command (byte ∷ params) =
+    option_map_or (λ n. list_all is_word params &&
+    (length params == (if nat_lt n 128 then 0 else 1))) (number_of byte) true
 
 -- a word is missing, empty or too many
 abbrev pub is_misshapen : Check
-is_misshapen before line = not (if says (Setup Command) line then fits_command line.words else fits (form_of line.keyword) line.words (text_of line))
+is_misshapen before line =
+    not (if says (Setup Command) line then fits_command line.words else fits (form_of line.keyword)
+    line.words (text_of line))
 
 -- the word is a number of the range
 abbrev pub is_within : Range → List ℕ → Bool
@@ -79,7 +99,10 @@ are_within (range ∷ ranges) (word ∷ words) = is_within range word && are_wit
 
 -- the ticks or a word for a number are none, or are out of their range
 abbrev pub has_bad_number : Check
-has_bad_number before line = let form = form_of line.keyword in not (option_map_or (is_within (between 0 8589934592)) line.advance true && are_within (form.numbers ++ form.more) line.words)
+has_bad_number before line =
+    let form = form_of line.keyword in not
+    (option_map_or (is_within (between 0 most_ticks)) line.advance true && are_within
+    (form.numbers ++ form.more) line.words)
 
 -- ASCII from the space to the tilde
 abbrev pub is_printable : ℕ → Bool
@@ -87,7 +110,10 @@ is_printable byte = nat_le 0x20 byte && nat_le byte 0x7E
 
 -- the text is too long, or not all of it can be printed
 abbrev pub has_bad_text : Check
-has_bad_text before line = option_map_or (λ most. not (nat_le (length (text_of line)) most && list_all is_printable (text_of line))) (form_of line.keyword).text false
+has_bad_text before line =
+    option_map_or (λ most. not
+    (nat_le (length (text_of line)) most && list_all is_printable (text_of line)))
+    (form_of line.keyword).text false
 
 -- nothing of the identifier is lost as it is shrunk
 abbrev pub is_aligned : ℕ → ℕ → ℕ → Bool
@@ -95,7 +121,9 @@ is_aligned id base shift = (offset_from base id % 2 ^ shift) == 0
 
 -- its identifier has low bits that the target would not send
 abbrev pub is_unaligned : Check
-is_unaligned before line = (form_of line.keyword).identifier && not (is_aligned (number line 0) (base_of before) (shift_of before))
+is_unaligned before line =
+    (form_of line.keyword).identifier && not
+    (is_aligned (number line 0) (base_of before) (shift_of before))
 
 -- the settings, each of which is told once
 abbrev pub single_keywords : List Keyword
@@ -112,7 +140,7 @@ abbrev pub is_step : Keyword → Bool
 is_step (Act word) = true
 is_step _ = false
 
--- lines behind the line `schedule`
+-- lines after the line `schedule`
 abbrev pub is_turn : Keyword → Bool
 is_turn (Turn word) = true
 is_turn _ = false
@@ -127,10 +155,11 @@ is_all_there before (Setup Desc) = nat_le 4 (count (Setup Desc) before)
 is_all_there before (Setup Task) = nat_le 32 (count (Setup Task) before)
 is_all_there before (Setup Module) = nat_le 64 (count (Setup Module) before)
 is_all_there before (Setup Command) = nat_le 256 (count (Setup Command) before)
-is_all_there before Writer = nat_le 16 (count Writer before)
-is_all_there before (Act Start) = nat_le 1048576 (count_of is_step before) || nat_le 256 (count (Act Start) before)
-is_all_there before (Act word) = nat_le 1048576 (count_of is_step before)
-is_all_there before (Turn word) = nat_le 1048576 (count_of is_turn before)
+is_all_there before Writer = nat_le most_writers (count Writer before)
+is_all_there before (Act Start) =
+    nat_le most_steps (count_of is_step before) || nat_le most_starts (count (Act Start) before)
+is_all_there before (Act word) = nat_le most_steps (count_of is_step before)
+is_all_there before (Turn word) = nat_le most_steps (count_of is_turn before)
 is_all_there before _ = false
 
 -- its like stands before it as often as it may
@@ -141,13 +170,16 @@ is_too_many before line = is_all_there before line.keyword
 abbrev pub has_no_writer : Check
 has_no_writer before line = says (Turn Step) line && nat_le (count Writer before) (number line 0)
 
--- behind these modules no room is left for a module of so many events: 64 stand, or its identifiers would pass 16384
+-- after these modules no room is left for a module of so many events: 64 stand, or its identifiers
+-- would pass 16384
 abbrev pub is_full_for : List ModuleRow → ℕ → Bool
-is_full_for modules events = nat_le 64 (length modules) || nat_lt 16384 (offset_after modules + events)
+is_full_for modules events =
+    nat_le 64 (length modules) || nat_lt 16384 (offset_after modules + events)
 
 -- its module finds no identifiers for its events
 abbrev pub has_no_room : Check
-has_no_room before line = says (Setup Module) line && is_full_for (modules_of before) (number line 0)
+has_no_room before line =
+    says (Setup Module) line && is_full_for (modules_of before) (number line 0)
 
 -- the checks, first to last, and what each finds wrong
 abbrev pub checks : List (Check × LineFault)

@@ -1,12 +1,21 @@
--- What stands behind each keyword: numbers, each with its range, and at the end maybe a text.
-use Rattle.std.specs.Prelude.{ℕ, ◌-◌, ◌^◌, nat_le, Bool, true, false, ◌&&◌, List, [], ◌∷◌, replicate, Option, Some, None}
+-- What stands after each keyword: numbers, each with its range, and at the end maybe a text.
+use Rattle.std.specs.Prelude.{ℕ, ◌-◌, ◌^◌, nat_le, Bool, true, false, ◌&&◌, List, [], ◌∷◌}
+use Rattle.std.specs.Prelude.{replicate, Option, Some, None}
 use Rattle.std.specs.Option.{option_map_or}
 use Rattle.sv_workload.specs.declared.range.Range.{Range}
-use Rattle.sv_workload.specs.declared.keyword.SetupWord.TheVariants.{Ring, Clock, Cpu, Base, Shift, Time, Desc, Task, Module, Command}
-use Rattle.sv_workload.specs.declared.keyword.ActWord.TheVariants.{Start, Stop, Nop, Isr, IsrExit, Run, Halt, Ready, Unready, Create, Terminate, Mark, MarkEnd, Idle, Sched, Timer, TimerExit, Name, Print, Call, Return}
+use Rattle.sv_workload.specs.declared.keyword.SetupWord.TheVariants.{Ring, Clock, Cpu, Base, Shift}
+use Rattle.sv_workload.specs.declared.keyword.SetupWord.TheVariants.{Time, Desc, Task, Module}
+use Rattle.sv_workload.specs.declared.keyword.SetupWord.TheVariants.{Command}
+use Rattle.sv_workload.specs.declared.keyword.ActWord.TheVariants.{Start, Stop, Nop, Isr, IsrExit}
+use Rattle.sv_workload.specs.declared.keyword.ActWord.TheVariants.{Run, Halt, Ready, Unready}
+use Rattle.sv_workload.specs.declared.keyword.ActWord.TheVariants.{Create, Terminate, Mark, MarkEnd}
+use Rattle.sv_workload.specs.declared.keyword.ActWord.TheVariants.{Idle, Sched, Timer, TimerExit}
+use Rattle.sv_workload.specs.declared.keyword.ActWord.TheVariants.{Name, Print, Call, Return}
 use Rattle.sv_workload.specs.declared.keyword.TurnWord.TheVariants.{Step, Read, Send}
 use Rattle.sv_workload.specs.declared.keyword.Keyword.{Keyword}
-use Rattle.sv_workload.specs.declared.keyword.Keyword.TheVariants.{Setup, Writer, Act, Schedule, Turn, Unknown}
+use Rattle.sv_workload.specs.declared.keyword.Keyword.TheVariants.{Setup, Writer, Act, Schedule}
+use Rattle.sv_workload.specs.declared.keyword.Keyword.TheVariants.{Turn, Unknown}
+use Rattle.sv_workload.specs.Limits.{most_steps}
 
 -- both ends belong to the range
 abbrev pub between : ℕ → ℕ → Range
@@ -23,7 +32,7 @@ any = record { least = 0; most = None }
 abbrev pub is_in : Range → ℕ → Bool
 is_in range n = nat_le range.least n && option_map_or (λ most. nat_le n most) range.most true
 
--- the words that a keyword wants behind it
+-- the words that a keyword wants after it
 pub record Form : Type 0 where
   -- the numbers that it can't be without, and then those that it can
   pub numbers : List Range
@@ -53,11 +62,11 @@ identifier ranges = record bare { numbers = word32 ∷ ranges; identifier = true
 abbrev pub with_more : List Range → Form → Form
 with_more ranges form = record form { more = ranges }
 
--- a text behind the numbers
+-- a text after the numbers
 abbrev pub with_text : ℕ → Form → Form
 with_text most form = record form { text = Some most }
 
--- the language's table: what each keyword wants behind it
+-- the language's table: what each keyword wants after it
 abbrev pub form_of : Keyword → Form
 form_of (Setup Ring) = numbers (between 64 65536 ∷ [])
 form_of (Setup Clock) = numbers (between 1 4294967295 ∷ [])
@@ -92,7 +101,7 @@ form_of (Act Print) = text 128
 form_of (Act Call) = with_more (replicate 8 word32) (numbers (between 32 16383 ∷ []))
 form_of (Act Return) = with_more (word32 ∷ []) (numbers (word32 ∷ []))
 form_of Schedule = bare
-form_of (Turn Step) = with_more (between 1 1048576 ∷ []) (numbers (any ∷ []))
+form_of (Turn Step) = with_more (between 1 most_steps ∷ []) (numbers (any ∷ []))
 form_of (Turn Read) = numbers (between 1 65536 ∷ [])
 form_of (Turn Send) = bare
 form_of Unknown = bare

@@ -1,5 +1,7 @@
 -- The language of workloads: what a text says, or its first line that says nothing.
-use Rattle.std.specs.Prelude.{◌≡◌, false, ℕ, ◌+◌, ◌<◌, take, slice_index_or, not, List, [], ◌∷◌, ◌++◌, length, map, filter, Option, Some, None, option_map, if◌then◌else◌}
+use Rattle.std.specs.Prelude.{◌≡◌, false, ℕ, ◌+◌, ◌<◌, take, slice_index_or, not, List, [], ◌∷◌}
+use Rattle.std.specs.Prelude.{◌++◌, length, map, filter, Option, Some, None, option_map}
+use Rattle.std.specs.Prelude.{if◌then◌else◌}
 use Rattle.std.specs.Option.{option_or}
 use Rattle.sv_workload.specs.declared.fault.LineFault.{LineFault}
 use Rattle.sv_workload.specs.Lines.{lines_of, is_remark}
@@ -13,11 +15,12 @@ use Rattle.sv_workload.specs.Checks.{fault_of}
 abbrev pub said : List (List ℕ) → List Line
 said lines = map line_of (filter (λ line. not (is_remark line)) lines)
 
--- what is wrong with a line behind these lines, if anything is
+-- what is wrong with a line after these lines, if anything is
 abbrev pub fault_at : List (List ℕ) → List ℕ → Option LineFault
 fault_at before line = if is_remark line then None else fault_of (said before) (line_of line)
 
--- the first line with a fault among those that follow the lines before, by its number among all of them
+-- the first line with a fault among those that follow the lines before, by its number among all of
+-- them
 abbrev pub first_fault_behind : List (List ℕ) → List (List ℕ) → Option (ℕ × LineFault)
 first_fault_behind before [] = None
 first_fault_behind before (line ∷ lines) = option_or
@@ -40,8 +43,10 @@ pub record IsWorkload (text : List ℕ) (load : Load) : Type 0 where
 -- the line at this place has the fault, and no line before it has one
 pub record IsFirstFault (text : List ℕ) (place : ℕ) (fault : LineFault) : Type 0 where
   pub within : place < length (lines_of text)
-  pub here : fault_at (take place (lines_of text)) (slice_index_or (lines_of text) place []) ≡ Some fault
-  pub earlier : (k : ℕ) → k < place → fault_at (take k (lines_of text)) (slice_index_or (lines_of text) k []) ≡ None
+  pub here : fault_at (take place (lines_of text)) (slice_index_or (lines_of text) place []) ≡ Some
+      fault
+  pub earlier : (k : ℕ) → k < place → fault_at (take k (lines_of text))
+      (slice_index_or (lines_of text) k []) ≡ None
 
 -- nothing is said that only words of later would say
 pub record SaysNothingOfLater (load : Load) : Type 0 where

@@ -1,18 +1,31 @@
 -- Keywords: how each is spelled, and which of them can begin a line of which kind.
-use Rattle.std.specs.Prelude.{ℕ, List, [], ◌∷◌, ◌++◌, codes, map, Bool, filter, find, length, ◌==◌, unwrap_or, bytes_eq}
-use Rattle.sv_workload.specs.declared.keyword.SetupWord.TheVariants.{Ring, Clock, Cpu, Base, Shift, Time, Desc, Task, Module, Command}
-use Rattle.sv_workload.specs.declared.keyword.ActWord.TheVariants.{Start, Stop, Nop, Isr, IsrExit, Run, Halt, Ready, Unready, Create, Terminate, Mark, MarkEnd, Idle, Sched, Timer, TimerExit, Name, Print, Call, Return}
+use Rattle.std.specs.Prelude.{ℕ, List, [], ◌∷◌, ◌++◌, codes, map, Bool, filter, find, length, ◌==◌}
+use Rattle.std.specs.Prelude.{unwrap_or, bytes_eq}
+use Rattle.sv_workload.specs.declared.keyword.SetupWord.TheVariants.{Ring, Clock, Cpu, Base, Shift}
+use Rattle.sv_workload.specs.declared.keyword.SetupWord.TheVariants.{Time, Desc, Task, Module}
+use Rattle.sv_workload.specs.declared.keyword.SetupWord.TheVariants.{Command}
+use Rattle.sv_workload.specs.declared.keyword.ActWord.TheVariants.{Start, Stop, Nop, Isr, IsrExit}
+use Rattle.sv_workload.specs.declared.keyword.ActWord.TheVariants.{Run, Halt, Ready, Unready}
+use Rattle.sv_workload.specs.declared.keyword.ActWord.TheVariants.{Create, Terminate, Mark, MarkEnd}
+use Rattle.sv_workload.specs.declared.keyword.ActWord.TheVariants.{Idle, Sched, Timer, TimerExit}
+use Rattle.sv_workload.specs.declared.keyword.ActWord.TheVariants.{Name, Print, Call, Return}
 use Rattle.sv_workload.specs.declared.keyword.TurnWord.TheVariants.{Step, Read, Send}
 use Rattle.sv_workload.specs.declared.keyword.Keyword.{Keyword}
-use Rattle.sv_workload.specs.declared.keyword.Keyword.TheVariants.{Setup, Writer, Act, Schedule, Turn, Unknown}
+use Rattle.sv_workload.specs.declared.keyword.Keyword.TheVariants.{Setup, Writer, Act, Schedule}
+use Rattle.sv_workload.specs.declared.keyword.Keyword.TheVariants.{Turn, Unknown}
 
--- the keywords behind the ticks of a step
+-- the keywords after the ticks of a step
 abbrev pub step_keywords : List Keyword
-step_keywords = map Act (Start ∷ Stop ∷ Nop ∷ Isr ∷ IsrExit ∷ Run ∷ Halt ∷ Ready ∷ Unready ∷ Create ∷ Terminate ∷ Mark ∷ MarkEnd ∷ Idle ∷ Sched ∷ Timer ∷ TimerExit ∷ Name ∷ Print ∷ Call ∷ Return ∷ [])
+step_keywords =
+    map Act (Start ∷ Stop ∷ Nop ∷ Isr ∷ IsrExit ∷ Run ∷ Halt ∷ Ready ∷ Unready ∷ Create ∷ Terminate
+    ∷ Mark ∷ MarkEnd ∷ Idle ∷ Sched ∷ Timer ∷ TimerExit ∷ Name ∷ Print ∷ Call ∷ Return ∷ [])
 
--- the keywords of every other line. `time`, `desc`, `module`, `command` and `send` are not among them yet
+-- the keywords of every other line. `time`, `desc`, `module`, `command` and `send` are not among
+-- them yet
 abbrev pub other_keywords : List Keyword
-other_keywords = map Setup (Ring ∷ Clock ∷ Cpu ∷ Base ∷ Shift ∷ Task ∷ []) ++ (Writer ∷ Schedule ∷ map Turn (Step ∷ Read ∷ []))
+other_keywords =
+    map Setup (Ring ∷ Clock ∷ Cpu ∷ Base ∷ Shift ∷ Task ∷ []) ++
+    (Writer ∷ Schedule ∷ map Turn (Step ∷ Read ∷ []))
 
 -- the bytes of a keyword; none for what is no keyword
 abbrev pub spelling : Keyword → List ℕ

@@ -1,5 +1,7 @@
 -- What lines say together: settings, lists, the scripts of the writers and the schedule.
-use Rattle.std.specs.Prelude.{ℕ, nat_lt, Bool, true, false, List, [], ◌∷◌, map, filter, drop, flat_map, find, count_by, filter_map, Option, Some, None, unwrap_or, option_map, option_and_then, slice_get, slice_index, slice_index_or}
+use Rattle.std.specs.Prelude.{ℕ, nat_lt, Bool, true, false, List, [], ◌∷◌, map, filter, drop}
+use Rattle.std.specs.Prelude.{flat_map, find, count_by, filter_map, Option, Some, None, unwrap_or}
+use Rattle.std.specs.Prelude.{option_map, option_and_then, slice_get, slice_index, slice_index_or}
 use Rattle.std.specs.List.{slice_split}
 use Rattle.sv_prim.specs.Number.{number_spelling}
 use Rattle.sv_prim.specs.Shrink.{shrunk}
@@ -15,7 +17,11 @@ use Rattle.sv_workload.specs.declared.load.Act.TheVariants as act
 use Rattle.sv_workload.specs.declared.keyword.SetupWord.{SetupWord}
 use Rattle.sv_workload.specs.declared.keyword.SetupWord.TheVariants as setup
 use Rattle.sv_workload.specs.declared.keyword.ActWord.{ActWord}
-use Rattle.sv_workload.specs.declared.keyword.ActWord.TheVariants.{Start, Stop, Nop, Isr, IsrExit, Run, Halt, Ready, Unready, Create, Terminate, Mark, MarkEnd, Idle, Sched, Timer, TimerExit, Name, Print, Call, Return}
+use Rattle.sv_workload.specs.declared.keyword.ActWord.TheVariants.{Start, Stop, Nop, Isr, IsrExit}
+use Rattle.sv_workload.specs.declared.keyword.ActWord.TheVariants.{Run, Halt, Ready, Unready}
+use Rattle.sv_workload.specs.declared.keyword.ActWord.TheVariants.{Create, Terminate, Mark, MarkEnd}
+use Rattle.sv_workload.specs.declared.keyword.ActWord.TheVariants.{Idle, Sched, Timer, TimerExit}
+use Rattle.sv_workload.specs.declared.keyword.ActWord.TheVariants.{Name, Print, Call, Return}
 use Rattle.sv_workload.specs.declared.keyword.TurnWord.TheVariants as turn
 use Rattle.sv_workload.specs.declared.keyword.Keyword.{Keyword}
 use Rattle.sv_workload.specs.declared.keyword.Keyword.TheVariants as keyword
@@ -40,7 +46,7 @@ count keyword lines = count_by (says keyword) lines
 abbrev pub is_there : Keyword → List Line → Bool
 is_there keyword lines = nat_lt 0 (count keyword lines)
 
--- the number at a place behind the keyword, 0 if there is none
+-- the number at a place after the keyword, 0 if there is none
 abbrev pub number : Line → ℕ → ℕ
 number line place = slice_index (numbers_of line) place
 
@@ -60,16 +66,29 @@ shift_of lines = setting setup.Shift 2 lines
 
 -- a task goes by its identifier as the line has it
 abbrev pub task_of : Line → Task
-task_of line = record { id = number line 0; priority = number line 1; stack_base = number line 2; stack_size = number line 3; extra = number line 4; name = text_of line }
+task_of line =
+    record {
+      id = number line 0;
+      priority = number line 1;
+      stack_base = number line 2;
+      stack_size =
+          number line 3;
+      extra = number line 4;
+      name = text_of line;
+    }
 
 abbrev pub tasks_of : List Line → List Task
 tasks_of lines = map task_of (those (keyword.Setup setup.Task) lines)
 
 abbrev pub modules_of : List Line → List ModuleRow
-modules_of lines = map (λ line. record { events = number line 0; name = text_of line }) (those (keyword.Setup setup.Module) lines)
+modules_of lines =
+    map (λ line. record { events = number line 0; name = text_of line })
+    (those (keyword.Setup setup.Module) lines)
 
 abbrev pub commands_of : List Line → List Command
-commands_of lines = map (λ line. record { byte = number line 0; param = number line 1 }) (those (keyword.Setup setup.Command) lines)
+commands_of lines =
+    map (λ line. record { byte = number line 0; param = number line 1 })
+    (those (keyword.Setup setup.Command) lines)
 
 -- what a step does with these numbers, the identifier among them shrunk by now, and this text
 abbrev pub act_of : ActWord → List ℕ → List ℕ → Act
@@ -92,7 +111,8 @@ act_of Timer ns text = act.Event (event.TimerEnter (slice_index ns 0))
 act_of TimerExit ns text = act.Event event.TimerExit
 act_of Name ns text = act.Event (event.NameResource (slice_index ns 0) text)
 act_of Print ns text = act.Event (event.Print text 0 [])
-act_of Call ns text = act.Event (event.Opaque (slice_index ns 0) (flat_map number_spelling (drop 1 ns)))
+act_of Call ns text =
+    act.Event (event.Opaque (slice_index ns 0) (flat_map number_spelling (drop 1 ns)))
 act_of Return ns text = act.Event (event.EndCall (slice_index ns 0) (slice_get ns 1))
 
 -- the numbers as the target sends them: an identifier goes first, and is shrunk
@@ -105,7 +125,8 @@ with_shrunk false base shift ns = ns
 abbrev pub step_by : Keyword → ℕ → ℕ → Line → Option Step
 step_by (keyword.Act word) base shift line = Some (record {
   advance = unwrap_or (option_and_then number_of line.advance) 0;
-  act = act_of word (with_shrunk (form_of (keyword.Act word)).identifier base shift (numbers_of line)) (text_of line);
+  act = act_of word (with_shrunk (form_of (keyword.Act word)).identifier base shift
+      (numbers_of line)) (text_of line);
 })
 step_by _ base shift line = None
 
@@ -114,11 +135,14 @@ step_of base shift line = step_by line.keyword base shift line
 
 -- each line `writer` begins a script, and the steps up to the next one are its own
 abbrev pub scripts_of : List Line → List (List Step)
-scripts_of lines = map (filter_map (step_of (base_of lines) (shift_of lines))) (drop 1 (slice_split (says keyword.Writer) lines))
+scripts_of lines =
+    map (filter_map (step_of (base_of lines) (shift_of lines)))
+    (drop 1 (slice_split (says keyword.Writer) lines))
 
 -- the turn that a line of the schedule gives away; other lines give none
 abbrev pub action_by : Keyword → List ℕ → Option Action
-action_by (keyword.Turn turn.Step) ns = Some (action.Step (slice_index ns 0) (slice_index_or ns 1 1))
+action_by (keyword.Turn turn.Step) ns =
+    Some (action.Step (slice_index ns 0) (slice_index_or ns 1 1))
 action_by (keyword.Turn turn.Read) ns = Some (action.Read (slice_index ns 0))
 action_by (keyword.Turn turn.Send) ns = Some action.Send
 action_by _ ns = None

@@ -1,5 +1,6 @@
 -- How many items and bytes a journal of a workload and its stream have at most.
-use Rattle.std.specs.Prelude.{◌≡◌, ℕ, ◌+◌, ◌*◌, ◌^◌, ◌<◌, ◌≤◌, [], ◌∷◌, length, sum_by, Bool, true, false, All}
+use Rattle.std.specs.Prelude.{◌≡◌, ℕ, ◌+◌, ◌*◌, ◌^◌, ◌<◌, ◌≤◌, [], ◌∷◌, length, sum_by, Bool, true}
+use Rattle.std.specs.Prelude.{false, All}
 use Rattle.sv_prim.specs.Number.{AreWords}
 use Rattle.sv_packet.specs.Spelling.{spelling_of, HasRange, IsRecordable}
 use Rattle.sv_workload.specs.declared.load.Act.{Act}
@@ -11,6 +12,7 @@ use Rattle.sv_workload.specs.declared.load.Action.{Action}
 use Rattle.sv_workload.specs.declared.load.Action.TheVariants as actions
 use Rattle.sv_workload.specs.declared.load.Command.{Command}
 use Rattle.sv_workload.specs.Load.{Load, is_break, offset_after}
+use Rattle.sv_workload.specs.Limits.{most_steps, most_starts, most_writers, most_ticks}
 
 abbrev pub is_start_act : Act → Bool
 is_start_act Start = true
@@ -51,15 +53,21 @@ act_bytes Start = 0
 act_bytes Stop = 17
 
 abbrev pub need_items : Load → ℕ
-need_items load = 3 * steps_in load + (starts_in load + length load.commands) * (2 + 2 * replies_in load)
+need_items load =
+    3 * steps_in load + (starts_in load + length load.commands) * (2 + 2 * replies_in load)
 
 abbrev pub need_bytes : Load → ℕ
-need_bytes load = 16 + over_steps (λ s. act_bytes s.act) load + (starts_in load + length load.commands) * (27 + 156 * replies_in load)
+need_bytes load =
+    16 + over_steps (λ s. act_bytes s.act) load + (starts_in load + length load.commands) *
+    (27 + 156 * replies_in load)
 
--- what a step may do: it records an event that a recorder takes, in a packet no longer than that of the name of a
--- resource with 128 bytes, and that tells of no break; or it starts or stops the recorder
+-- what a step may do: it records an event that a recorder takes, in a packet no longer than that of
+-- the name of a resource with 128 bytes, and that tells of no break; or it starts or stops the
+-- recorder
 abbrev pub IsStepAct : Act → Type 0
-IsStepAct (Event event) = IsRecordable event × (length (spelling_of event 0) ≤ 138) × HasRange event × (is_break event ≡ false)
+IsStepAct (Event event) =
+    IsRecordable event × (length (spelling_of event 0) ≤ 138) × HasRange event ×
+    (is_break event ≡ false)
 IsStepAct Start = Unit {0}
 IsStepAct Stop = Unit {0}
 
@@ -75,15 +83,17 @@ IsTask task = (1 ≤ length task.name) × (length task.name ≤ 32)
 
 -- a task's numbers are below 2 ^ 32
 abbrev pub HasWords : Task → Type 0
-HasWords task = AreWords (task.id ∷ task.priority ∷ task.stack_base ∷ task.stack_size ∷ task.extra ∷ [])
+HasWords task =
+    AreWords (task.id ∷ task.priority ∷ task.stack_base ∷ task.stack_size ∷ task.extra ∷ [])
 
 -- a parameter goes with the bytes from 128 on, and is 0 for the others
 abbrev pub IsAsked : Command → Type 0
-IsAsked command = (command.byte < 256) × (command.param < 256) × (command.byte < 128 → command.param ≡ 0)
+IsAsked command =
+    (command.byte < 256) × (command.param < 256) × (command.byte < 128 → command.param ≡ 0)
 
 -- a turn of the schedule, where there are so many writers
 abbrev pub IsTurn : ℕ → Action → Type 0
-IsTurn writers (actions.Step writer count) = (writer < writers) × (1 ≤ count) × (count ≤ 1048576)
+IsTurn writers (actions.Step writer count) = (writer < writers) × (1 ≤ count) × (count ≤ most_steps)
 IsTurn writers (actions.Read most) = (1 ≤ most) × (most ≤ 65536)
 IsTurn writers actions.Send = Unit {0}
 
@@ -97,15 +107,15 @@ pub record IsWithinLimits (load : Load) : Type 0 where
   pub cpu_most : load.cpu < 2 ^ 32
   pub base : load.base < 2 ^ 32
   pub shift : load.shift ≤ 31
-  pub writers : length load.scripts ≤ 16
-  pub steps : steps_in load ≤ 1048576
-  pub starts : starts_in load ≤ 256
+  pub writers : length load.scripts ≤ most_writers
+  pub steps : steps_in load ≤ most_steps
+  pub starts : starts_in load ≤ most_starts
   pub commands : length load.commands ≤ 256
   pub lines : length load.lines ≤ 4
   pub tasks : length load.tasks ≤ 32
   pub modules : length load.modules ≤ 64
-  pub turns : length load.schedule ≤ 1048576
-  pub advances : All (λ script. All (λ s. s.advance ≤ 8589934592) script) load.scripts
+  pub turns : length load.schedule ≤ most_steps
+  pub advances : All (λ script. All (λ s. s.advance ≤ most_ticks) script) load.scripts
   pub acts : All (λ script. All (λ s. IsStepAct s.act) script) load.scripts
   pub texts : HasShortTexts load
   pub line_texts : All (λ text. 1 ≤ length text) load.lines

@@ -1,7 +1,10 @@
 -- Faults of lines as numbers.
 use Rattle.std.specs.Prelude.{ℕ}
 use Rattle.sv_workload.specs.declared.fault.LineFault.{LineFault}
-use Rattle.sv_workload.specs.declared.fault.LineFault.TheVariants.{UnknownWord, Shape, Number, Repeated, TooMany, Unaligned, Misplaced, BadText, NoSuchWriter, ModuleFull}
+use Rattle.sv_workload.specs.declared.fault.LineFault.TheVariants.{UnknownWord, Shape, Number}
+use Rattle.sv_workload.specs.declared.fault.LineFault.TheVariants.{Repeated, TooMany, Unaligned}
+use Rattle.sv_workload.specs.declared.fault.LineFault.TheVariants.{Misplaced, BadText, NoSuchWriter}
+use Rattle.sv_workload.specs.declared.fault.LineFault.TheVariants.{ModuleFull}
 
 -- the number of a fault, as it is printed
 abbrev pub reason_of : LineFault → ℕ

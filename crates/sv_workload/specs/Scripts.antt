@@ -3,6 +3,7 @@ use Rattle.std.specs.Prelude.{◌≡◌, ℕ, ◌+◌, ◌<◌, ◌≤◌, ◌*�
 use Rattle.sv_workload.specs.declared.load.Step.{Step}
 use Rattle.sv_workload.specs.declared.load.Need.{Need}
 use Rattle.sv_workload.specs.Need.{act_bytes, is_start_act, one_if, IsStepAct}
+use Rattle.sv_workload.specs.Limits.{most_steps, most_starts, most_writers, most_ticks}
 
 -- one more step for the last script
 abbrev pub onto_last : Step → List (List Step) → List (List Step)
@@ -16,24 +17,27 @@ over_scripts f scripts = sum_by (λ script. sum_by f script) scripts
 
 -- what is counted over scripts, which are within the limits
 pub record AreCounted (scripts : List (List Step)) (steps starts bytes : ℕ) : Type 0 where
-  pub few_scripts : length scripts ≤ 16
+  pub few_scripts : length scripts ≤ most_writers
   pub steps_is : steps ≡ over_scripts (λ s. 1) scripts
-  pub few_steps : steps ≤ 1048576
+  pub few_steps : steps ≤ most_steps
   pub starts_is : starts ≡ over_scripts (λ s. one_if (is_start_act s.act)) scripts
-  pub few_starts : starts ≤ 256
+  pub few_starts : starts ≤ most_starts
   pub bytes_is : bytes ≡ over_scripts (λ s. act_bytes s.act) scripts
   pub small : bytes ≤ 153 * steps
-  pub advances : All (λ script. All (λ s. s.advance ≤ 8589934592) script) scripts
+  pub advances : All (λ script. All (λ s. s.advance ≤ most_ticks) script) scripts
   pub acts : All (λ script. All (λ s. IsStepAct s.act) script) scripts
 
--- what these scripts need where nothing but so many tasks is described, and what a workload asks of them
+-- what these scripts need where nothing but so many tasks is described, and what a workload asks of
+-- them
 pub record NeedOf (scripts : List (List Step)) (tasks : ℕ) (need : Need) : Type 0 where
-  pub items : need.items ≡ 3 * over_scripts (λ s. 1) scripts + over_scripts (λ s. one_if (is_start_act s.act)) scripts * (2 + 2 * (4 + 2 * tasks))
-  pub bytes : need.bytes ≡ 16 + over_scripts (λ s. act_bytes s.act) scripts + over_scripts (λ s. one_if (is_start_act s.act)) scripts * (27 + 156 * (4 + 2 * tasks))
+  pub items : need.items ≡ 3 * over_scripts (λ s. 1) scripts + over_scripts
+      (λ s. one_if (is_start_act s.act)) scripts * (2 + 2 * (4 + 2 * tasks))
+  pub bytes : need.bytes ≡ 16 + over_scripts (λ s. act_bytes s.act) scripts + over_scripts
+      (λ s. one_if (is_start_act s.act)) scripts * (27 + 156 * (4 + 2 * tasks))
   pub few : need.items < 3400000
   pub short : need.bytes < 181000000
-  pub writers : length scripts ≤ 16
-  pub steps : over_scripts (λ s. 1) scripts ≤ 1048576
-  pub starts : over_scripts (λ s. one_if (is_start_act s.act)) scripts ≤ 256
-  pub advances : All (λ script. All (λ s. s.advance ≤ 8589934592) script) scripts
+  pub writers : length scripts ≤ most_writers
+  pub steps : over_scripts (λ s. 1) scripts ≤ most_steps
+  pub starts : over_scripts (λ s. one_if (is_start_act s.act)) scripts ≤ most_starts
+  pub advances : All (λ script. All (λ s. s.advance ≤ most_ticks) script) scripts
   pub acts : All (λ script. All (λ s. IsStepAct s.act) script) scripts

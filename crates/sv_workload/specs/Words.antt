@@ -1,5 +1,6 @@
 -- Words: a line is cut at its spaces, and some words are numbers.
-use Rattle.std.specs.Prelude.{ℕ, ◌==◌, Bool, true, false, not, ◌&&◌, List, [], ◌∷◌, Option, Some, None, if◌then◌else◌}
+use Rattle.std.specs.Prelude.{ℕ, ◌==◌, Bool, true, false, not, ◌&&◌, List, [], ◌∷◌, Option, Some}
+use Rattle.std.specs.Prelude.{None, if◌then◌else◌}
 use Rattle.std.specs.List.{slice_split, list_all}
 use Rattle.std.specs.Char.{is_ascii_digit}
 use Rattle.std.specs.Str.Parse.{digits_value}
@@ -8,7 +9,7 @@ use Rattle.std.specs.Str.Parse.{digits_value}
 abbrev pub words_of : List ℕ → List (List ℕ)
 words_of line = slice_split (λ b. b == 32) line
 
--- no digit stands behind a 0 at the front
+-- no digit stands after a 0 at the front
 abbrev pub begins_well : List ℕ → Bool
 begins_well [] = false
 begins_well (b ∷ []) = true

@@ -8,6 +8,7 @@ ghost use Rattle.sv_workload.specs.Need.{one_if, is_start_act, IsStepAct, IsTask
 ghost use Rattle.sv_workload.specs.Settings.{tell};
 ghost use Rattle.sv_workload.specs.Scripts.{onto_last, over_scripts};
 ghost use Rattle.sv_workload.specs.Draft.{IsGoodBehind, HasTaken, is_later};
+ghost use Rattle.sv_workload.specs.Limits.{most_steps, most_starts, most_ticks};
 
 use crate::draft::Draft;
 use crate::keyword::{ActWord, Keyword, SetupWord};
@@ -51,10 +52,10 @@ impl Draft {
     /// One more step for the writer that was named last.
     fn add_step(&mut self, step: Step) -> Result<(), NoMemory>
         requires writer { 0 < length self.old.scripts }
-        requires steps { over_scripts (λ s. 1) self.old.scripts < 1048576 }
+        requires steps { over_scripts (λ s. 1) self.old.scripts < most_steps }
         requires starts { is_start_act step.act ≡ true
-            → over_scripts (λ s. one_if (is_start_act s.act)) self.old.scripts < 256 }
-        requires advance { step.advance ≤ 8589934592 }
+            → over_scripts (λ s. one_if (is_start_act s.act)) self.old.scripts < most_starts }
+        requires advance { step.advance ≤ most_ticks }
         requires act { IsStepAct step.act }
         ensures { OnOk result
             (self.new ≡ record self.old { scripts = onto_last step self.old.scripts }) }
@@ -71,7 +72,7 @@ impl Draft {
 
     /// One more turn, after the others.
     fn add_turn(&mut self, action: Action) -> Result<(), NoMemory>
-        requires few { length self.old.schedule < 1048576 }
+        requires few { length self.old.schedule < most_steps }
         requires turn { IsTurn (length self.old.scripts) action }
         ensures { OnOk result
             (self.new ≡ record self.old { schedule = self.old.schedule ++ action ∷ [] }) }

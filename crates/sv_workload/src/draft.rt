@@ -5,6 +5,7 @@ ghost use Rattle.sv_workload.specs.Checking.{is_told};
 
 use crate::fault::LineFault;
 use crate::keyword::{ActWord, Keyword, SetupWord, TurnWord};
+use crate::limits::{MOST_STARTS, MOST_STEPS, MOST_TASKS, MOST_WRITERS};
 use crate::lines::is_remark;
 use crate::load::{Action, Need, Task, Workload};
 use crate::read_line::ReadLine;
@@ -147,7 +148,7 @@ impl Draft {
     pub fn has_all_steps(&self) -> bool
         ensures { result ≡ has_all_steps self.now }
     {
-        self.scripts.steps() >= 1048576
+        self.scripts.steps() >= u64::from(MOST_STEPS)
     }
 
     /// Whether a further line with this keyword is beyond the limits.
@@ -155,11 +156,12 @@ impl Draft {
         ensures { result ≡ has_all self.now keyword }
     {
         match keyword {
-            Keyword::Setup(SetupWord::Task) => self.tasks.len() >= 32,
-            Keyword::Writer => self.scripts.writers() >= 16,
-            Keyword::Act(ActWord::Start) => self.has_all_steps() || self.scripts.starts() >= 256,
+            Keyword::Setup(SetupWord::Task) => self.tasks.len() >= MOST_TASKS,
+            Keyword::Writer => self.scripts.writers() >= MOST_WRITERS,
+            Keyword::Act(ActWord::Start) => self.has_all_steps()
+                || self.scripts.starts() >= MOST_STARTS,
             Keyword::Act(_) => self.has_all_steps(),
-            Keyword::Turn(_) => self.schedule.len() >= 1048576,
+            Keyword::Turn(_) => self.schedule.len() >= MOST_STEPS as usize,
             _ => false,
         }
     }

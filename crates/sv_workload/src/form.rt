@@ -1,12 +1,13 @@
-//! What stands behind each keyword.
+//! What stands after each keyword.
 ghost use Rattle.std.specs.Prelude.{◌≡◌};
 ghost use Rattle.sv_workload.specs.Forms.{bare, numbers, form_of};
 
 use crate::keyword::{ActWord, Keyword, SetupWord, TurnWord};
+use crate::limits::MOST_STEPS;
 use crate::range::Range;
 use std::marker::Model;
 
-/// What stands behind a keyword.
+/// What stands after a keyword.
 #[derive(Drop)]
 pub struct Form {
     pub numbers: &'static [Range],
@@ -58,7 +59,7 @@ fn numbers(ranges: &'static [Range]) -> Form
     }
 }
 
-/// What stands behind a setup word.
+/// What stands after a setup word.
 fn setup_form(word: SetupWord) -> Form
     ensures { result ≡ form_of (Keyword.Setup word) }
 {
@@ -107,7 +108,7 @@ fn setup_form(word: SetupWord) -> Form
     }
 }
 
-/// What stands behind the word of a step.
+/// What stands after the word of a step.
 fn act_form(word: ActWord) -> Form
     ensures { result ≡ form_of (Keyword.Act word) }
 {
@@ -154,7 +155,7 @@ fn act_form(word: ActWord) -> Form
     }
 }
 
-/// What stands behind a word of the schedule.
+/// What stands after a word of the schedule.
 fn turn_form(word: TurnWord) -> Form
     ensures { result ≡ form_of (Keyword.Turn word) }
 {
@@ -162,7 +163,7 @@ fn turn_form(word: TurnWord) -> Form
         TurnWord::Step => Form {
             more: &[Range {
                 least: 1,
-                most: Some(1048576),
+                most: Some(MOST_STEPS),
             }],
             ..numbers(&[ANY])
         },
@@ -174,7 +175,7 @@ fn turn_form(word: TurnWord) -> Form
     }
 }
 
-/// What stands behind a keyword.
+/// What stands after a keyword.
 pub fn form_of(keyword: Keyword) -> Form
     ensures { result ≡ form_of keyword }
 {

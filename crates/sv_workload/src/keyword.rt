@@ -63,7 +63,7 @@ pub enum Keyword {
     Unknown,
 }
 
-/// The keywords behind the ticks of a step that have so many letters.
+/// The keywords after the ticks of a step that have so many letters.
 fn step_keywords(len: usize) -> &'static [Keyword]
     ensures { result.now ≡ of_length len step_keywords }
 {

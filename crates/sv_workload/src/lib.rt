@@ -16,6 +16,7 @@ mod fault;
 mod form;
 mod keyword;
 mod laws;
+mod limits;
 mod line_text;
 mod lines;
 mod load;

@@ -8,7 +8,7 @@ ghost use Rattle.sv_workload.specs.Checks.{is_printable, has_bad_text};
 use crate::read_line::ReadLine;
 use crate::words::Words;
 
-/// All that is behind so many words, as one text.
+/// All that is after so many words, as one text.
 pub fn text_after<'a>(mut words: Words<'a>, count: usize) -> &'a [u8]
     ensures { result.now ≡ join_with_byte 32 (drop count words.entry) }
 {

@@ -11,7 +11,7 @@ fn line_end(text: &[u8]) -> Option<usize>
     memchr(b'\n', text)
 }
 
-/// The first line of a text, and what stands behind it.
+/// The first line of a text, and what stands after it.
 pub fn first_line(text: &[u8]) -> (&[u8], &[u8])
     requires { 0 < length text.now }
     ensures { IsNext text.now result.0.now result.1.now }

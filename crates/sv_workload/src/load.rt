@@ -4,6 +4,7 @@ ghost use Rattle.sv_workload.specs.Load.{script_of};
 ghost use Rattle.sv_workload.specs.Need.{need_items, need_bytes, IsWithinLimits, HasNeed};
 ghost use Rattle.sv_workload.specs.Need.{IsStepAct, IsTask, HasWords, IsAsked, IsTurn};
 ghost use Rattle.sv_workload.specs.Draft.{load_by};
+ghost use Rattle.sv_workload.specs.Limits.{most_steps, most_ticks};
 
 use crate::settings::Settings;
 use std::alloc::Global;
@@ -278,7 +279,7 @@ impl Workload {
     pub fn steps(&self, writer: u32) -> &[Step]
         requires { writer < length self.now.scripts }
         ensures told { result.now ≡ script_of self.now writer }
-        ensures advances { All (λ step. step.advance ≤ 8589934592) result.now }
+        ensures advances { All (λ step. step.advance ≤ most_ticks) result.now }
         ensures acts { All (λ step. IsStepAct step.act) result.now }
     {
         self.script(writer)
@@ -294,7 +295,7 @@ impl Workload {
     /// The lines of the schedule, in order, at most 1048576. Each step's writer is there.
     pub fn schedule(&self) -> &[Action]
         ensures told { result.now ≡ self.now.schedule }
-        ensures few { length result.now ≤ 1048576 }
+        ensures few { length result.now ≤ most_steps }
         ensures turns { All (IsTurn (length self.now.scripts)) result.now }
     {
         self.schedule.as_slice()

@@ -5,7 +5,7 @@ ghost use Rattle.std.specs.Char.{is_ascii_digit};
 ghost use Rattle.std.specs.Str.Parse.{digits_value};
 ghost use Rattle.sv_workload.specs.Words.{begins_well, is_number, number_of};
 
-/// Whether no digit stands behind a 0 at the front.
+/// Whether no digit stands after a 0 at the front.
 fn begins_well(word: &[u8]) -> bool
     ensures { result ≡ begins_well word.now }
 {

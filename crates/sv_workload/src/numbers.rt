@@ -39,7 +39,7 @@ fn first_numbers(mut words: Words<'_>, count: usize) -> ArrayVec<u32, 9>
     numbers
 }
 
-/// The numbers behind the keyword of a line. One above the greatest `u32` counts as that one.
+/// The numbers after the keyword of a line. One above the greatest `u32` counts as that one.
 pub fn numbers_of(line: &CutLine<'_>, form: &Form) -> ArrayVec<u32, 9>
     requires { form.now ≡ form_of line.now.keyword }
     ensures { result.items ≡ map capped (numbers_of line.now) }

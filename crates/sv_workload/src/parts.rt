@@ -5,6 +5,7 @@ ghost use Rattle.sv_workload.specs.declared.keyword.Keyword.TheVariants.{Setup, 
 ghost use Rattle.sv_workload.specs.Fit.{IsFit};
 ghost use Rattle.sv_workload.specs.Meaning.{number, task_of, step_by, action_by, action_of};
 ghost use Rattle.sv_workload.specs.Need.{IsStepAct};
+ghost use Rattle.sv_workload.specs.Limits.{most_ticks};
 
 use crate::acts::act;
 use crate::keyword::{ActWord, TurnWord};
@@ -14,7 +15,7 @@ use crate::read_line::ReadLine;
 use std::alloc::Global;
 use sv_prim::{Bytes, NoMemory};
 
-/// The turn that these numbers behind a word of the schedule give away.
+/// The turn that these numbers after a word of the schedule give away.
 fn turn(word: TurnWord, numbers: &[u32]) -> Action
     ensures { Some result ≡ action_by (Turn word) numbers.now }
 {
@@ -83,7 +84,7 @@ pub fn step(
     requires fit { IsFit line.now }
     requires shift { shift ≤ 31 }
     ensures ok { IfOk result (λ s. Some s ≡ step_by line.now.keyword base shift line.now) }
-    ensures advance { IfOk result (λ s. s.advance ≤ 8589934592) }
+    ensures advance { IfOk result (λ s. s.advance ≤ most_ticks) }
     ensures act { IfOk result (λ s. IsStepAct s.act) }
 {
     let act = act(alloc, word, line.numbers(), line.text(), base, shift)?;

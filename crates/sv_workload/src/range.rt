@@ -5,14 +5,13 @@ ghost use Rattle.std.specs.Option.{option_map_or};
 ghost use Rattle.sv_workload.specs.Line.{Line};
 ghost use Rattle.sv_workload.specs.Forms.{between, is_in};
 ghost use Rattle.sv_workload.specs.Checks.{is_within, are_within, has_bad_number};
+ghost use Rattle.sv_workload.specs.Limits.{most_ticks};
 
 use crate::form::Form;
+use crate::limits::MOST_TICKS;
 use crate::number::capped_number;
 use crate::read_line::ReadLine;
 use crate::words::Words;
-
-/// The most ticks before a step.
-const MOST_TICKS: u64 = 8589934592;
 
 /// The numbers from the least on, and up to the most, if there is one.
 #[derive(Clone, Copy, Debug)]
@@ -76,14 +75,14 @@ fn are_within(ranges: &[Range], words: &mut Words<'_>) -> bool
 /// Whether so many ticks may pass before a step. `u64::MAX` stands for every number from there on.
 fn are_few_ticks(n: u64) -> bool
     ensures { (whole : ℕ) → n ≡ min whole (2 ^ 64 - 1)
-        → result ≡ is_in (between 0 8589934592) whole }
+        → result ≡ is_in (between 0 most_ticks) whole }
 {
     n <= MOST_TICKS
 }
 
 /// Whether a word is a number of ticks that may pass before a step.
 fn is_ticks(word: &[u8]) -> bool
-    ensures { result ≡ is_within (between 0 8589934592) word.now }
+    ensures { result ≡ is_within (between 0 most_ticks) word.now }
 {
     match capped_number(word) {
         Some(n) => are_few_ticks(n),
@@ -94,7 +93,7 @@ fn is_ticks(word: &[u8]) -> bool
 /// Whether the word for the ticks is a number of their range, if there is one.
 fn are_ticks(word: Option<&[u8]>) -> bool
     ensures { result ≡
-        option_map_or (λ word. is_within (between 0 8589934592) word.now) word.entry true }
+        option_map_or (λ word. is_within (between 0 most_ticks) word.now) word.entry true }
 {
     match word {
         Some(word) => is_ticks(word),

@@ -55,14 +55,14 @@ impl<'a> ReadLine<'a> {
         self.cut.keyword
     }
 
-    /// What the keyword wants behind it.
+    /// What the keyword wants after it.
     pub fn form(&self) -> &Form
         ensures { result.now ≡ form_of self.now.keyword }
     {
         &self.form
     }
 
-    /// The words behind the keyword.
+    /// The words after the keyword.
     pub fn words(&self) -> Words<'a>
         ensures { result ≡ self.now.words }
     {
@@ -85,7 +85,7 @@ impl<'a> ReadLine<'a> {
         self.cut.ticks()
     }
 
-    /// The numbers behind the keyword. One above the greatest `u32` counts as that one.
+    /// The numbers after the keyword. One above the greatest `u32` counts as that one.
     pub fn numbers(&self) -> &[u32]
         ensures { result.now ≡ map capped (numbers_of self.now) }
     {
@@ -114,7 +114,7 @@ impl<'a> ReadLine<'a> {
         self.form.text
     }
 
-    /// The text behind the numbers, with all its spaces.
+    /// The text after the numbers, with all its spaces.
     pub fn text(&self) -> &'a [u8]
         ensures { result.now ≡ text_of self.now }
     {

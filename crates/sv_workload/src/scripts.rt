@@ -3,6 +3,7 @@ ghost use Rattle.std.specs.Prelude.{◌≡◌, ◌<◌, ◌≤◌, ◌∷◌, �
 ghost use Rattle.sv_packet.specs.Spelling.{spelling_of, IsRecordable};
 ghost use Rattle.sv_workload.specs.Need.{act_bytes, one_if, is_start_act, IsStepAct};
 ghost use Rattle.sv_workload.specs.Scripts.{over_scripts, onto_last, NeedOf};
+ghost use Rattle.sv_workload.specs.Limits.{most_steps, most_starts, most_ticks};
 
 use crate::load::{Act, Need, Step};
 use std::alloc::Global;
@@ -113,7 +114,7 @@ impl Scripts {
     /// How many steps there are, at most 1048576.
     pub fn steps(&self) -> u64
         ensures count { result ≡ over_scripts (λ s. 1) self.now }
-        ensures few { over_scripts (λ s. 1) self.now ≤ 1048576 }
+        ensures few { over_scripts (λ s. 1) self.now ≤ most_steps }
     {
         self.steps
     }
@@ -121,7 +122,7 @@ impl Scripts {
     /// How many steps start the recorder, at most 256.
     pub fn starts(&self) -> u64
         ensures count { result ≡ over_scripts (λ s. one_if (is_start_act s.act)) self.now }
-        ensures few { over_scripts (λ s. one_if (is_start_act s.act)) self.now ≤ 256 }
+        ensures few { over_scripts (λ s. one_if (is_start_act s.act)) self.now ≤ most_starts }
     {
         self.starts
     }
@@ -143,10 +144,10 @@ impl Scripts {
     /// Adds a step to the script of the last writer. An `Err` changes nothing.
     pub fn push(&mut self, step: Step) -> Result<(), NoMemory>
         requires some { 0 < length self.old }
-        requires few { over_scripts (λ s. 1) self.old < 1048576 }
+        requires few { over_scripts (λ s. 1) self.old < most_steps }
         requires few_starts { is_start_act step.act ≡ true
-            → over_scripts (λ s. one_if (is_start_act s.act)) self.old < 256 }
-        requires advance { step.advance ≤ 8589934592 }
+            → over_scripts (λ s. one_if (is_start_act s.act)) self.old < most_starts }
+        requires advance { step.advance ≤ most_ticks }
         requires act { IsStepAct step.act }
         ensures ok { OnOk result (self.new ≡ onto_last step self.old) }
         ensures err { OnErr result (self.new ≡ self.old) }

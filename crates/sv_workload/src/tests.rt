@@ -3,7 +3,8 @@ use std::alloc::{AllocError, Global};
 use std::test::*;
 use sv_packet::Event;
 
-/// What a step says, in short: its ticks, the identifier of its packet or a number from 100 on, and the number in it.
+/// What a step says, in short: its ticks, the identifier of its packet or a number from 100 on, and
+/// the number in it.
 fn told(step: &Step) -> (u64, u32, u32) {
     let (what, number) = match &step.act {
         Act::Start => (100, 0),

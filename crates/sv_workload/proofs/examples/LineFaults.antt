@@ -1,7 +1,9 @@
--- Lines whose keywords no text can have yet: a description, a module, a command, a turn of the host.
+-- Lines whose keywords no text can have yet: a description, a module, a command, a turn of the
+-- host.
 use Rattle.std.specs.Prelude.{codes, ◌≡◌, ℕ, List, [], ◌∷◌, Some, None, replicate}
 use Rattle.std.proofs.Common.{refl}
-use Rattle.sv_workload.specs.declared.fault.LineFault.TheVariants.{Shape, Number, Repeated, TooMany, Misplaced, ModuleFull}
+use Rattle.sv_workload.specs.declared.fault.LineFault.TheVariants.{Shape, Number, Repeated, TooMany}
+use Rattle.sv_workload.specs.declared.fault.LineFault.TheVariants.{Misplaced, ModuleFull}
 use Rattle.sv_workload.specs.declared.keyword.SetupWord.TheVariants.{Time, Desc, Module, Command}
 use Rattle.sv_workload.specs.declared.keyword.TurnWord.TheVariants.{Send}
 use Rattle.sv_workload.specs.declared.keyword.Keyword.{Keyword}
@@ -11,7 +13,7 @@ use Rattle.sv_workload.specs.Words.{words_of}
 use Rattle.sv_workload.specs.Meaning.{modules_of, commands_of}
 use Rattle.sv_workload.specs.Checks.{fault_of}
 
--- a keyword with these words behind it
+-- a keyword with these words after it
 abbrev by : Keyword → List ℕ → Line
 by keyword words = record { advance = None; keyword = keyword; words = words_of words }
 
@@ -19,10 +21,12 @@ by keyword words = record { advance = None; keyword = keyword; words = words_of 
 abbrev alone : Keyword → Line
 alone keyword = record { advance = None; keyword = keyword; words = [] }
 
-a_module_that_fits : fault_of (by (Setup Module) (codes "15872 A") ∷ []) (by (Setup Module) (codes "0 B b")) ≡ None
+a_module_that_fits : fault_of (by (Setup Module) (codes "15872 A") ∷ [])
+    (by (Setup Module) (codes "0 B b")) ≡ None
 a_module_that_fits = refl
 
-a_module_past_the_last_identifier : fault_of (by (Setup Module) (codes "15872 A") ∷ []) (by (Setup Module) (codes "1 B")) ≡ Some ModuleFull
+a_module_past_the_last_identifier : fault_of (by (Setup Module) (codes "15872 A") ∷ [])
+    (by (Setup Module) (codes "1 B")) ≡ Some ModuleFull
 a_module_past_the_last_identifier = refl
 
 a_first_module_too_large : fault_of [] (by (Setup Module) (codes "15873 A")) ≡ Some ModuleFull
@@ -31,13 +35,16 @@ a_first_module_too_large = refl
 a_module_of_16385_events : fault_of [] (by (Setup Module) (codes "16385 A")) ≡ Some Number
 a_module_of_16385_events = refl
 
-a_65th_module_too_large : fault_of (replicate 64 (by (Setup Module) (codes "0 A"))) (by (Setup Module) (codes "15873 B")) ≡ Some TooMany
+a_65th_module_too_large : fault_of (replicate 64 (by (Setup Module) (codes "0 A")))
+    (by (Setup Module) (codes "15873 B")) ≡ Some TooMany
 a_65th_module_too_large = refl
 
-a_fifth_description : fault_of (replicate 4 (by (Setup Desc) (codes "a"))) (by (Setup Desc) (codes "a")) ≡ Some TooMany
+a_fifth_description : fault_of (replicate 4 (by (Setup Desc) (codes "a")))
+    (by (Setup Desc) (codes "a")) ≡ Some TooMany
 a_fifth_description = refl
 
-a_fifth_description_without_text : fault_of (replicate 4 (by (Setup Desc) (codes "a"))) (by (Setup Desc) (codes "")) ≡ Some Shape
+a_fifth_description_without_text : fault_of (replicate 4 (by (Setup Desc) (codes "a")))
+    (by (Setup Desc) (codes "")) ≡ Some Shape
 a_fifth_description_without_text = refl
 
 a_second_time : fault_of (alone (Setup Time) ∷ []) (alone (Setup Time)) ≡ Some Repeated
@@ -75,19 +82,24 @@ a_command_that_is_no_number = refl
 an_empty_command : fault_of [] (by (Setup Command) (codes "")) ≡ Some Number
 an_empty_command = refl
 
-a_257th_command : fault_of (replicate 256 (by (Setup Command) (codes "1"))) (by (Setup Command) (codes "1")) ≡ Some TooMany
+a_257th_command : fault_of (replicate 256 (by (Setup Command) (codes "1")))
+    (by (Setup Command) (codes "1")) ≡ Some TooMany
 a_257th_command = refl
 
-what_commands_say : commands_of (by (Setup Command) (codes "9") ∷ by (Setup Command) (codes "128 7") ∷ []) ≡ record { byte = 9; param = 0 } ∷ record { byte = 128; param = 7 } ∷ []
+what_commands_say : commands_of
+    (by (Setup Command) (codes "9") ∷ by (Setup Command) (codes "128 7") ∷ []) ≡ record
+    { byte = 9; param = 0 } ∷ record { byte = 128; param = 7 } ∷ []
 what_commands_say = refl
 
-what_modules_say : modules_of (by (Setup Module) (codes "3 M=Net") ∷ []) ≡ record { events = 3; name = codes "M=Net" } ∷ []
+what_modules_say : modules_of (by (Setup Module) (codes "3 M=Net") ∷ []) ≡ record
+    { events = 3; name = codes "M=Net" } ∷ []
 what_modules_say = refl
 
 a_turn_of_the_host : fault_of (alone Writer ∷ alone Schedule ∷ []) (alone (Turn Send)) ≡ None
 a_turn_of_the_host = refl
 
-a_turn_of_the_host_with_a_number : fault_of (alone Writer ∷ alone Schedule ∷ []) (by (Turn Send) (codes "1")) ≡ Some Shape
+a_turn_of_the_host_with_a_number : fault_of (alone Writer ∷ alone Schedule ∷ [])
+    (by (Turn Send) (codes "1")) ≡ Some Shape
 a_turn_of_the_host_with_a_number = refl
 
 a_turn_of_the_host_too_early : fault_of (alone Writer ∷ []) (alone (Turn Send)) ≡ Some Misplaced

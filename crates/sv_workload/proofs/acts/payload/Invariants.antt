@@ -5,4 +5,6 @@ use Rattle.sv_workload.proofs.acts.payload.Given as goal
 
 -- the first numbers are spelled
 abbrev pub invariant-loop-number : goal.invariant-loop-number
-invariant-loop-number l = (l.spelled.items ≡ numbers_spelling (take l.number-index l.numbers)) × Counted l.numbers l.number-index (length l.spelled.items)
+invariant-loop-number l =
+    (l.spelled.items ≡ numbers_spelling (take l.number-index l.numbers)) × Counted l.numbers
+    l.number-index (length l.spelled.items)

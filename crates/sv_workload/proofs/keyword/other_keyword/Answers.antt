@@ -5,4 +5,7 @@ use Rattle.sv_workload.proofs.Keywords.{among_of_length}
 use Rattle.sv_workload.proofs.keyword.other_keyword.Goals as goal
 
 pub returns : goal.returns
-returns c = c.keyword_among.ensures ∙ ap (λ (keywords : List Keyword). keyword_among keywords c.args.word.now) c.other_keywords.ensures ∙ among_of_length other_keywords c.args.word.now
+returns c =
+    c.keyword_among.ensures ∙ ap
+    (λ (keywords : List Keyword). keyword_among keywords c.args.word.now)
+    c.other_keywords.ensures ∙ among_of_length other_keywords c.args.word.now

@@ -10,4 +10,5 @@ loop-preserved c =
     let next = c.args.count - (c.loop.counter + 1) in
     let one : left ≡ next + 1 = omega (arith, c.loop-test.true) in
     let split : c.loop.words ≡ word ∷ rest = search rules in
-    sym (drop_more left next word rest one) ∙ ap (λ (l : List (List ℕ)). drop left l) (sym split) ∙ c.loop.invariant
+    sym (drop_more left next word rest one) ∙ ap (λ (l : List (List ℕ)). drop left l) (sym split) ∙
+    c.loop.invariant

@@ -10,7 +10,10 @@ loop-preserved c =
     let next = c.args.count - (c.loop.counter + 1) in
     let one : left ≡ next + 1 = omega (arith, c.loop-test.true) in
     let split : c.loop.words ≡ word ∷ rest = search rules in
-    let pushed : c.push.new.self.items ≡ c.loop.numbers.items ++ counts_as word ∷ [] = search rules in (
-      numbers_next left next c.loop.numbers.items c.push.new.self.items word rest one pushed ∙ ap (λ (l : List (List ℕ)). c.loop.numbers.items ++ numbers_in left l) (sym split) ∙ c.loop.invariant.0,
+    let pushed : c.push.new.self.items ≡ c.loop.numbers.items ++ counts_as word ∷ [] = search rules
+    in (
+      numbers_next left next c.loop.numbers.items c.push.new.self.items word rest one pushed ∙ ap
+          (λ (l : List (List ℕ)). c.loop.numbers.items ++ numbers_in left l) (sym split) ∙
+          c.loop.invariant.0,
       omega (arith, c.push.ensures.len, c.loop.invariant.1),
     )

@@ -14,5 +14,8 @@ returns-in-None c =
     let taken : begins_filled (length form.numbers) c.args.words ≡ true = search rules in
     let left : c.take_words.new.words ≡ rest = search rules in
     let bare : form.text ≡ None = search rules in
-    let few : c.are_few_words.result ≡ is_few_filled (length form.more) c.take_words.new.words = search rules in
-    few ∙ ap (is_few_filled (length form.more)) left ∙ sym (ap (λ (t : Bool). t && is_few_filled (length form.more) rest) taken) ∙ sym (fits_words form c.args.words bare)
+    let few : c.are_few_words.result ≡ is_few_filled (length form.more) c.take_words.new.words =
+    search rules in
+    few ∙ ap (is_few_filled (length form.more)) left ∙ sym
+    (ap (λ (t : Bool). t && is_few_filled (length form.more) rest) taken) ∙ sym
+    (fits_words form c.args.words bare)

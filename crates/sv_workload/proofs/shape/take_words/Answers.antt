@@ -12,6 +12,8 @@ loop-preserved c =
     let one : left ≡ next + 1 = omega (arith, c.loop-test.true) in
     let split : c.loop.words ≡ word ∷ rest = search rules in
     let filled : is_word word ≡ true = search rules in (
-      sym (filled_more left next word rest one filled) ∙ ap (begins_filled left) (sym split) ∙ c.loop.invariant.0,
-      sym (drop_more left next word rest one) ∙ ap (λ (l : List (List ℕ)). drop left l) (sym split) ∙ c.loop.invariant.1,
+      sym (filled_more left next word rest one filled) ∙ ap (begins_filled left) (sym split) ∙
+          c.loop.invariant.0,
+      sym (drop_more left next word rest one) ∙ ap (λ (l : List (List ℕ)). drop left l) (sym split)
+          ∙ c.loop.invariant.1,
     )

@@ -9,22 +9,28 @@ use Rattle.sv_workload.proofs.Rooms.{fit_of, room_for_step, room_for_start, base
 use Rattle.sv_workload.proofs.draft.Draft.add_act.Goals as goal
 
 pub step-requires-clause-fit : goal.step-requires-clause-fit
-step-requires-clause-fit c = let good = c.requires.good in fit_of good.0 c.args.line.now (passes good.0 c.args.line.now good.2)
+step-requires-clause-fit c =
+    let good = c.requires.good in fit_of good.0 c.args.line.now
+    (passes good.0 c.args.line.now good.2)
 
 pub add_step-requires-clause-writer : goal.add_step-requires-clause-writer
 add_step-requires-clause-writer c =
     let good = c.requires.good in
-    a_writer_before c.args.self.now good.0 c.args.line.now good.1 (passes good.0 c.args.line.now good.2) c.args.word c.requires.keyword
+    a_writer_before c.args.self.now good.0 c.args.line.now good.1
+    (passes good.0 c.args.line.now good.2) c.args.word c.requires.keyword
 
 pub add_step-requires-clause-steps : goal.add_step-requires-clause-steps
 add_step-requires-clause-steps c =
     let good = c.requires.good in
-    room_for_step c.args.self.now good.0 c.args.line.now good.1 (passes good.0 c.args.line.now good.2) c.args.word c.requires.keyword
+    room_for_step c.args.self.now good.0 c.args.line.now good.1
+    (passes good.0 c.args.line.now good.2) c.args.word c.requires.keyword
 
 pub add_step-requires-clause-starts : goal.add_step-requires-clause-starts
 add_step-requires-clause-starts c = λ starts.
     let good = c.requires.good in
-    room_for_start c.args.self.now good.0 c.args.line.now good.1 (passes good.0 c.args.line.now good.2) c.args.word c.in_ok-step.step c.base-base.result c.shift-shift.result c.requires.keyword c.in_ok-step.ensures.ok starts
+    room_for_start c.args.self.now good.0 c.args.line.now good.1
+    (passes good.0 c.args.line.now good.2) c.args.word c.in_ok-step.step c.base-base.result
+    c.shift-shift.result c.requires.keyword c.in_ok-step.ensures.ok starts
 
 pub returns : goal.returns
 returns c =
@@ -32,8 +38,15 @@ returns c =
     let old = c.args.self.now in
     on_ok_weaker c.add_step.result (λ now lines stands none.
     let passed = passes lines line none in
-    let base : c.base-base.result ≡ base_of lines = c.base-base.ensures ∙ ap (λ (d : Draft). base_told d.settings) c.self.view_is ∙ base_is old lines line stands passed in
-    let shift : c.shift-shift.result ≡ shift_of lines = c.shift-shift.ensures ∙ ap (λ (d : Draft). shift_told d.settings) c.self.view_is ∙ shift_is old lines line stands passed in
+    let base : c.base-base.result ≡ base_of lines = c.base-base.ensures ∙ ap
+    (λ (d : Draft). base_told d.settings) c.self.view_is ∙ base_is old lines line stands passed
+    in
+    let shift : c.shift-shift.result ≡ shift_of lines = c.shift-shift.ensures ∙ ap
+    (λ (d : Draft). shift_told d.settings) c.self.view_is ∙ shift_is old lines line stands
+    passed in
     let made : Some c.in_ok-step.step ≡ step_by line.keyword (base_of lines) (shift_of lines) line =
-    c.in_ok-step.ensures.ok ∙ ap (λ (b : ℕ). step_by line.keyword b c.shift-shift.result line) base ∙ ap (λ (s : ℕ). step_by line.keyword (base_of lines) s line) shift in
-    subst (λ (d : Draft). Stands d (lines ++ line ∷ [])) (sym now) (stands-step old lines line stands passed c.args.word c.in_ok-step.step c.requires.keyword made)) c.add_step.ensures
+    c.in_ok-step.ensures.ok ∙ ap (λ (b : ℕ). step_by line.keyword b c.shift-shift.result line) base
+    ∙ ap (λ (s : ℕ). step_by line.keyword (base_of lines) s line) shift in
+    subst (λ (d : Draft). Stands d (lines ++ line ∷ [])) (sym now)
+    (stands-step old lines line stands passed c.args.word c.in_ok-step.step c.requires.keyword
+    made)) c.add_step.ensures

@@ -4,4 +4,6 @@ use Rattle.sv_workload.proofs.Standing.{too_many}
 use Rattle.sv_workload.proofs.draft.Draft.is_too_many.Goals as goal
 
 pub returns : goal.returns
-returns c = λ lines s. c.has_all.ensures ∙ ap (has_all c.args.self.now) c.keyword.ensures ∙ too_many c.args.self.now lines s c.args.line.now.keyword
+returns c =
+    λ lines s. c.has_all.ensures ∙ ap (has_all c.args.self.now) c.keyword.ensures ∙ too_many
+    c.args.self.now lines s c.args.line.now.keyword

@@ -11,6 +11,8 @@ returns c = λ lines s.
     let first = c.first_number.ensures in
     let identifier = c.has_identifier.ensures in
     c.loses_bits.ensures
-    ∙ ap (λ (b : Bool). b && not (is_aligned c.first_number.result (base_told settings) (shift_told settings))) identifier
-    ∙ ap (λ (id : ℕ). (form_of c.args.line.now.keyword).identifier && not (is_aligned id (base_told settings) (shift_told settings))) first
+    ∙ ap (λ (b : Bool). b && not
+    (is_aligned c.first_number.result (base_told settings) (shift_told settings))) identifier
+    ∙ ap (λ (id : ℕ). (form_of c.args.line.now.keyword).identifier && not
+    (is_aligned id (base_told settings) (shift_told settings))) first
     ∙ unaligned c.args.line.now c.requires c.args.self.now lines s

@@ -7,20 +7,27 @@ use Rattle.sv_workload.proofs.Walking.{never_later}
 use Rattle.sv_workload.proofs.draft.Draft.take_said.Goals as goal
 
 pub fault-requires : goal.fault-requires
-fault-requires c = subst (λ (l : Line). is_later l.keyword ≡ false) (sym c.of-line.ensures) (never_later c.args.bytes.now)
+fault-requires c =
+    subst (λ (l : Line). is_later l.keyword ≡ false) (sym c.of-line.ensures)
+    (never_later c.args.bytes.now)
 
 pub returns-in-Some-clause-fault : goal.returns-in-Some-clause-fault
 returns-in-Some-clause-fault c = λ lines fault stands is.
-    let found : fault_of lines c.of-line.result ≡ Some c.in-Some.fault = sym (c.fault.ensures lines stands) ∙ c.in-Some.is in
+    let found : fault_of lines c.of-line.result ≡ Some c.in-Some.fault = sym
+    (c.fault.ensures lines stands) ∙ c.in-Some.is in
     let same : c.in-Some.fault ≡ fault = cc in
     ap (fault_of lines) (sym c.of-line.ensures) ∙ found ∙ ap (λ (f : LineFault). Some f) same
 
 pub add-requires-clause-known : goal.add-requires-clause-known
-add-requires-clause-known c = subst (λ (l : Line). is_later l.keyword ≡ false) (sym c.of-line.ensures) (never_later c.args.bytes.now)
+add-requires-clause-known c =
+    subst (λ (l : Line). is_later l.keyword ≡ false) (sym c.of-line.ensures)
+    (never_later c.args.bytes.now)
 
 pub returns-clause-good : goal.returns-clause-good
 returns-clause-good c = λ lines stands is.
-    let none : fault_of lines c.of-line.result ≡ None = sym (c.fault.ensures lines stands) ∙ c.in_default.is in (
+    let none : fault_of lines c.of-line.result ≡ None = sym (c.fault.ensures lines stands) ∙
+    c.in_default.is in (
       ap (fault_of lines) (sym c.of-line.ensures) ∙ none,
-      subst (λ (l : Line). Stands c.add.new.self (lines ++ l ∷ [])) c.of-line.ensures (c.in_ok-add.ensures lines stands none),
+      subst (λ (l : Line). Stands c.add.new.self (lines ++ l ∷ [])) c.of-line.ensures
+          (c.in_ok-add.ensures lines stands none),
     )

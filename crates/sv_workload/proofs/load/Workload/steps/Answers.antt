@@ -6,8 +6,10 @@ use Rattle.sv_workload.proofs.load.Workload.steps.Goals as goal
 
 pub returns-clause-advances : goal.returns-clause-advances
 returns-clause-advances c =
-    all_of_script (λ (step : Step). step.advance ≤ 8589934592) c.args.self.now c.args.writer c.script.result.now c.script.ensures.limits.advances c.requires c.script.ensures.told
+    all_of_script (λ (step : Step). step.advance ≤ 8589934592) c.args.self.now c.args.writer
+    c.script.result.now c.script.ensures.limits.advances c.requires c.script.ensures.told
 
 pub returns-clause-acts : goal.returns-clause-acts
 returns-clause-acts c =
-    all_of_script (λ (step : Step). IsStepAct step.act) c.args.self.now c.args.writer c.script.result.now c.script.ensures.limits.acts c.requires c.script.ensures.told
+    all_of_script (λ (step : Step). IsStepAct step.act) c.args.self.now c.args.writer
+    c.script.result.now c.script.ensures.limits.acts c.requires c.script.ensures.told

@@ -1,0 +1,16 @@
+//! The most of what a workload holds.
+
+/// Steps of all scripts together, turns of a schedule, and steps of one turn.
+pub const MOST_STEPS: u32 = 1048576;
+
+/// Steps that start the recorder.
+pub const MOST_STARTS: u64 = 256;
+
+/// Writers.
+pub const MOST_WRITERS: u32 = 16;
+
+/// Tasks.
+pub const MOST_TASKS: usize = 32;
+
+/// Ticks before a step: 2^33.
+pub const MOST_TICKS: u64 = 8589934592;

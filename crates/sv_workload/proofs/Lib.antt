@@ -14,6 +14,7 @@ pub mod Searched
 pub mod Shapes
 pub mod Numbered
 pub mod Standing
+pub mod Steady
 pub mod FitSteps
 pub mod StepActs
 pub mod OneMore

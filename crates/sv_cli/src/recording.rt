@@ -1,14 +1,19 @@
-//! A recording as it is written.
-ghost use Rattle.std.specs.Prelude.{◌++◌, IsErr, OnOk, OnErr};
+//! The recording of a workload as it is written.
+ghost use Rattle.std.specs.Prelude.{◌≡◌, ◌≤◌, ◌^◌, ◌++◌, [], length, true, IsErr, OnOk, OnErr};
 ghost use Rattle.std.specs.Io.KnownBytes.{Appends};
 ghost use Rattle.sv_base.specs.Causes.{BlamesLast};
 ghost use Rattle.sv_base.specs.Streams.{AppendsPart};
-ghost use Rattle.sv_cli.specs.Recorded.{header};
+ghost use Rattle.sv_cli.specs.Recorded.{header, is_unwritten, IsTextRecorded};
 
+use crate::simulated::{Simulation, Unsimulated, simulated};
+use crate::status::Status;
+use std::alloc::Global;
 use sv_base::{Failed, Sink, put_all};
+use sv_core::has_start;
+use sv_recorder::Journal;
 
 /// Writes the line of a recording and its bytes.
-pub fn put_recording<K: Sink>(out: &mut K, bytes: &[u8]) -> Result<(), Failed>
+fn put_recording<K: Sink>(out: &mut K, bytes: &[u8]) -> Result<(), Failed>
     ensures ok { OnOk result
         (Appends (K.written out.old) (K.written out.new) (header ++ bytes.now)) }
     ensures err { OnErr result
@@ -19,4 +24,38 @@ pub fn put_recording<K: Sink>(out: &mut K, bytes: &[u8]) -> Result<(), Failed>
     put_all(out, b"; sysview recording\n")?;
     put_all(out, bytes)?;
     Ok(())
+}
+
+/// Records the workload that the text says.
+pub fn record_text<K: Sink>(
+    alloc: Global,
+    text: &[u8],
+    out: &mut K,
+    journal: &mut Journal,
+) -> Status
+    requires short { length text.now ≤ 2 ^ 26 }
+    requires empty { journal.old.items ≡ [] }
+    ensures recorded { IsTextRecorded text.now
+        (K.written out.old) (K.written out.new) journal.new.items result }
+    ensures unwritten { is_unwritten result ≡ true → out.new ≡ out.old }
+    ensures sink { BlamesLast (result ≡ Status.WriteFault)
+        (K.broken out.new) (K.faults out.old) (K.faults out.new) }
+{
+    let Simulation { load, run } = match simulated(alloc, text) {
+        Ok(made) => made,
+        Err(Unsimulated::Line { line, reason }) => return Status::Workload { line, reason },
+        Err(Unsimulated::Unbuilt) => {
+            let place = text.len() as u64;
+            return Status::Unbuilt { place };
+        }
+        Err(Unsimulated::NoMemory) => return Status::NoMemory,
+    };
+    *journal = run.journal;
+    let Ok(()) = put_recording(out, run.up.bytes()) else {
+        return Status::WriteFault;
+    };
+    if !has_start(&load, journal.items()) {
+        return Status::NoSync;
+    }
+    Status::Done
 }

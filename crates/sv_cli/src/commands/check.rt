@@ -1,6 +1,5 @@
 //! The command `check`: how much a recording holds.
-ghost use Rattle.std.specs.Prelude.{◌≡◌, ◌++◌, OnOk, OnErr, length};
-ghost use Rattle.sv_report.specs.Growth.{Grows};
+ghost use Rattle.std.specs.Prelude.{◌≡◌, ◌++◌, OnOk, length};
 ghost use Rattle.sv_cli.specs.commands.Check.{check_text, numbered, last_time};
 
 use crate::view::View;
@@ -32,8 +31,7 @@ impl Check {
 
 /// Appends words, a number, and the line's end.
 fn put_numbered(words: &str, number: u64, lines: &mut Vec<u8>) -> Result<(), AllocError>
-    ensures ok { OnOk result (lines.new.items ≡ lines.old.items ++ numbered words.now number) }
-    ensures err { OnErr result (Grows lines.old.items lines.new.items) }
+    ensures { OnOk result (lines.new.items ≡ lines.old.items ++ numbered words.now number) }
 {
     lines.extend_from_slice(words.as_bytes())?;
     lines.extend_from_slice(Buffer::new().format(number).as_bytes())?;

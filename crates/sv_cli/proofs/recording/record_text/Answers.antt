@@ -3,7 +3,7 @@ use Rattle.std.specs.Io.KnownBytes.{Appends}
 use Rattle.sv_base.specs.Streams.{AppendsPart}
 use Rattle.sv_core.specs.Start.{has_start as holds_start}
 use Rattle.sv_cli.specs.Recorded.{header}
-use Rattle.sv_cli.proofs.commands.record.record_text.Goals as goal
+use Rattle.sv_cli.proofs.recording.record_text.Goals as goal
 
 pub returns-in_default-clause-recorded : goal.returns-in_default-clause-recorded
 returns-in_default-clause-recorded g c = record {

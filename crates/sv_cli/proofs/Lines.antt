@@ -3,8 +3,7 @@ use Rattle.std.proofs.Common.{◌≡◌, ℕ, List, [], ◌∷◌, ◌++◌, Opt
 use Rattle.std.proofs.Common.{append_assoc, append-nil}
 use Rattle.sv_base.specs.Streams.{AppendsPart}
 use Rattle.sv_packet.specs.declared.event.TimedEvent.{TimedEvent}
-use Rattle.sv_stream.specs.declared.end.End.{End}
-use Rattle.sv_cli.specs.Text.{Text, lines_after, lines_of, whole_text}
+use Rattle.sv_cli.specs.Text.{Text, lines_after, lines_of}
 use Rattle.sv_cli.specs.commands.Check.{last_time}
 use Rattle.sv_cli.proofs.Parts.{part_more}
 

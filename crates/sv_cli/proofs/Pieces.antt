@@ -1,12 +1,11 @@
 -- One piece of a recording more, and what came of it.
-use Rattle.std.proofs.Common.{◌≡◌, ℕ, ◌+◌, ◌*◌, ◌^◌, ◌<◌, ◌≤◌, Bool, true, false, List, [], ◌∷◌}
-use Rattle.std.proofs.Common.{◌++◌, length, take, Option, Some, None, Result, Ok, Err, refl, sym}
-use Rattle.std.proofs.Common.{ap, ◌∙◌, subst, arith, append_assoc, append-nil, length-append, inl}
+use Rattle.std.proofs.Common.{◌≡◌, ℕ, ◌+◌, ◌<◌, ◌≤◌, Bool, true, false, List, []}
+use Rattle.std.proofs.Common.{◌++◌, length, take, Option, Some, None, Ok, Err, refl, sym}
+use Rattle.std.proofs.Common.{ap, ◌∙◌, subst, arith, length-append, inl}
 use Rattle.std.proofs.Common.{inr}
 use Rattle.std.specs.Prelude.{◌⊎◌}
 use Rattle.std.proofs.lemmas.List.{length-take}
 use Rattle.std.specs.Io.KnownBytes.{Appends, Consumes, IsAtEnd}
-use Rattle.sv_prim.specs.declared.got.Reason.{Reason}
 use Rattle.sv_prim.specs.Text.{AreBytes}
 use Rattle.sv_base.specs.Streams.{AppendsPart, ConsumesFewer}
 use Rattle.sv_base.proofs.Shared.{Consumes-then, Appends-then}
@@ -23,7 +22,7 @@ use Rattle.sv_cli.specs.declared.scan.Cut.TheVariants as cuts
 use Rattle.sv_cli.specs.declared.scan.Scan.{Scan}
 use Rattle.sv_cli.specs.declared.status.Status.TheVariants.{ReadFault}
 use Rattle.sv_cli.specs.Answer.{piece_size, most_bytes, IsSound, IsIntake, IsWhole, IsCutOff}
-use Rattle.sv_cli.specs.Answer.{IsPart, IsAnswer, IsShown}
+use Rattle.sv_cli.specs.Answer.{IsAnswer, IsShown}
 use Rattle.sv_cli.specs.Scan.{status_for, HasGiven, IsDrained, IsFed, IsLost, IsUnfed, IsScanned}
 use Rattle.sv_cli.specs.Scan.{IsBetween, IsEnough, IsScanEnd}
 use Rattle.sv_cli.specs.Text.{Text, lines_after, lines_of, whole_text}

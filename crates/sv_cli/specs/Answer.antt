@@ -12,9 +12,9 @@ use Rattle.sv_stream.specs.Decoding.{IsDamaged}
 use Rattle.sv_stream.specs.Reads.{Reads}
 use Rattle.sv_report.specs.Ends.{number_of}
 use Rattle.sv_cli.specs.declared.status.Status.{Status}
-use Rattle.sv_cli.specs.declared.status.Status.TheVariants.{Done, Usage, ReadFault, WriteFault}
-use Rattle.sv_cli.specs.declared.status.Status.TheVariants.{Damaged, Truncated, NoSync, Workload}
-use Rattle.sv_cli.specs.declared.status.Status.TheVariants.{TooLong, NoMemory, Unbuilt}
+use Rattle.sv_cli.specs.declared.status.Status.TheVariants.{Done, ReadFault, WriteFault}
+use Rattle.sv_cli.specs.declared.status.Status.TheVariants.{Damaged, Truncated, NoSync}
+use Rattle.sv_cli.specs.declared.status.Status.TheVariants.{TooLong, NoMemory}
 use Rattle.sv_cli.specs.Text.{Text, lines_of, whole_text}
 
 -- how many bytes a piece has

@@ -13,8 +13,8 @@ use Rattle.sv_core.specs.Start.{has_start}
 use Rattle.sv_cli.specs.declared.simulated.Unsimulated.{Unsimulated}
 use Rattle.sv_cli.specs.declared.simulated.Unsimulated.TheVariants as faults
 use Rattle.sv_cli.specs.declared.status.Status.{Status}
-use Rattle.sv_cli.specs.declared.status.Status.TheVariants.{Done, Usage, ReadFault, WriteFault}
-use Rattle.sv_cli.specs.declared.status.Status.TheVariants.{Damaged, Truncated, NoSync, Workload}
+use Rattle.sv_cli.specs.declared.status.Status.TheVariants.{Done, ReadFault, WriteFault}
+use Rattle.sv_cli.specs.declared.status.Status.TheVariants.{NoSync, Workload}
 use Rattle.sv_cli.specs.declared.status.Status.TheVariants.{TooLong, NoMemory, Unbuilt}
 
 -- the most bytes of a workload

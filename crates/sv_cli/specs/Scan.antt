@@ -1,9 +1,9 @@
 -- How far a recording is scanned, and what came of it.
-use Rattle.std.specs.Prelude.{◌≡◌, ℕ, ◌+◌, ◌*◌, ◌^◌, ◌<◌, ◌≤◌, ◌⊎◌, Bool, true, false, List, []}
+use Rattle.std.specs.Prelude.{◌≡◌, ℕ, ◌+◌, ◌*◌, ◌<◌, ◌≤◌, ◌⊎◌, Bool, true, false, List, []}
 use Rattle.std.specs.Prelude.{◌++◌, length, take, Option, Result, Ok, Err}
 use Rattle.std.specs.Io.KnownBytes.{Appends, Consumes, IsAtEnd}
 use Rattle.sv_prim.specs.Text.{AreBytes}
-use Rattle.sv_base.specs.Streams.{ConsumesMore, ConsumesFewer}
+use Rattle.sv_base.specs.Streams.{ConsumesFewer}
 use Rattle.sv_packet.specs.declared.event.Packet.{Packet}
 use Rattle.sv_packet.specs.declared.event.TimedEvent.{TimedEvent}
 use Rattle.sv_packet.specs.Time.{timed}

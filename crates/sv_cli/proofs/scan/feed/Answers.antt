@@ -1,4 +1,4 @@
-use Rattle.std.proofs.Common.{rules, arith, ◌≡◌, ℕ, List, length, take, ◌+◌, ◌∙◌, sym, subst}
+use Rattle.std.proofs.Common.{arith, ◌≡◌, length, take, ◌∙◌, sym, subst}
 use Rattle.std.proofs.lemmas.List.{length-take}
 use Rattle.sv_cli.proofs.Drained.{taken_up, fed_by}
 use Rattle.sv_prim.specs.Text.{AreBytes}

@@ -1,7 +1,3 @@
-use Rattle.std.proofs.Common.{◌≡◌, List, ℕ, sym, subst}
-use Rattle.sv_cli.specs.Answer.{IsShown}
-use Rattle.sv_cli.specs.declared.status.Status.{Status}
-use Rattle.sv_cli.specs.Scan.{status_for}
 use Rattle.sv_cli.proofs.Files.{of_nothing, of_scan}
 use Rattle.sv_cli.proofs.Pieces.{nothing_answered}
 use Rattle.sv_cli.proofs.scan.scan_file.Goals as goal

@@ -1,4 +1,4 @@
-use Rattle.std.proofs.Common.{◌≡◌, ◌∙◌, List, ℕ, sym, ap, subst}
+use Rattle.std.proofs.Common.{◌∙◌, List, ℕ, sym, ap, subst}
 use Rattle.sv_cli.specs.Command.{is_unwritten}
 use Rattle.sv_cli.proofs.SameWords.{answered_as, same_unwritten, same_file}
 use Rattle.sv_cli.proofs.top.offline.Goals.{in-Some, in-None}

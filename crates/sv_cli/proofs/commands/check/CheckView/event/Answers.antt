@@ -1,8 +1,6 @@
-use Rattle.std.proofs.Common.{◌≡◌, ℕ, ◌+◌, List, [], ◌∷◌, ◌++◌, length, arith, ap, sym, ◌∙◌}
+use Rattle.std.proofs.Common.{◌≡◌, ℕ, ◌+◌, [], ◌∷◌, ◌++◌, length, arith, ap, sym, ◌∙◌}
 use Rattle.std.proofs.Common.{length-append}
-use Rattle.sv_packet.specs.declared.event.TimedEvent.{TimedEvent}
 use Rattle.sv_cli.specs.declared.commands.check.Check.{Check}
-use Rattle.sv_cli.specs.commands.Check.{last_time}
 use Rattle.sv_cli.proofs.Lines.{last_time-push}
 use Rattle.sv_cli.proofs.commands.check.CheckView.event.Goals as goal
 

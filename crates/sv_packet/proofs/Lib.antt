@@ -11,6 +11,7 @@ pub mod Times
 pub mod Flats
 pub mod Reading
 pub mod Counts
+pub mod ReadNumbers
 pub mod Shorts
 pub mod Pieces
 pub mod Whole

@@ -6,6 +6,8 @@ pub mod Shape
 pub mod Parts
 pub mod Reason
 pub mod Made
+pub mod Numbers
+pub mod EventRef
 pub mod Forms
 pub mod Read
 pub mod Reader

@@ -1,74 +1,65 @@
 //! The event of a payload, where the identifier alone tells what the payload is made of.
-ghost use Rattle.std.specs.Prelude.{◌≡◌, IfOk, IsErr};
-ghost use Rattle.sv_packet.specs.declared.event.Event.{Event};
+ghost use Rattle.std.specs.Prelude.{◌≡◌};
+ghost use Rattle.sv_packet.specs.EventRef.{seen};
 ghost use Rattle.sv_packet.specs.Shape.{number_count, IsRegularId};
-ghost use Rattle.sv_packet.specs.Made.{IsMade, HasList};
+ghost use Rattle.sv_packet.specs.Made.{IsMade};
 ghost use Rattle.sv_packet.specs.Reader.{numbers_in};
 
-use crate::event::Event;
+use crate::event_ref::EventRef;
 use crate::reader::Four;
-use std::alloc::Global;
-use sv_prim::{Bytes, NoMemory};
 
-/// The event of these numbers and this text. It takes memory for the text alone.
-pub fn regular_event(alloc: Global, id: u16, four: Four, text: &[u8]) -> Result<Event, NoMemory>
+/// The event of these numbers and this text.
+#[inline(always)]
+pub fn regular_event<'a>(id: u16, four: Four, text: &'a [u8]) -> EventRef<'a>
     requires { IsRegularId id }
-    ensures made { IfOk result (λ event.
-        IsMade id (numbers_in (number_count id) four) text.now event) }
-    ensures memory { IsErr result → (event : Event) ×
-        IsMade id (numbers_in (number_count id) four) text.now event × HasList event }
+    ensures { IsMade id (numbers_in (number_count id) four) text.now (seen result) }
 {
     let Four { a, b, c, d } = four;
-    Ok(match id {
-        0 => Event::Nop,
-        1 => Event::Overflow { count: a },
-        2 => Event::IsrEnter { isr: a },
-        3 => Event::IsrExit,
-        4 => Event::TaskStart { task: a },
-        5 => Event::TaskStop,
-        6 => Event::TaskReady { task: a },
-        7 => Event::TaskUnready { task: a, cause: b },
-        8 => Event::TaskCreate { task: a },
-        9 => Event::TaskInfo {
+    match id {
+        0 => EventRef::Nop,
+        1 => EventRef::Overflow { count: a },
+        2 => EventRef::IsrEnter { isr: a },
+        3 => EventRef::IsrExit,
+        4 => EventRef::TaskStart { task: a },
+        5 => EventRef::TaskStop,
+        6 => EventRef::TaskReady { task: a },
+        7 => EventRef::TaskUnready { task: a, cause: b },
+        8 => EventRef::TaskCreate { task: a },
+        9 => EventRef::TaskInfo {
             task: a,
             priority: b,
-            name: Bytes::new(alloc, text)?,
+            name: text,
         },
-        10 => Event::TraceStart,
-        11 => Event::TraceStop,
-        12 => Event::SystimeCycles { value: a },
-        13 => Event::SystimeUs { low: a, high: b },
-        14 => Event::SysDesc {
-            text: Bytes::new(alloc, text)?,
-        },
-        15 => Event::MarkStart { id: a },
-        16 => Event::MarkStop { id: a },
-        17 => Event::Idle,
-        18 => Event::ToScheduler,
-        19 => Event::TimerEnter { timer: a },
-        20 => Event::TimerExit,
-        21 => Event::StackInfo {
+        10 => EventRef::TraceStart,
+        11 => EventRef::TraceStop,
+        12 => EventRef::SystimeCycles { value: a },
+        13 => EventRef::SystimeUs { low: a, high: b },
+        14 => EventRef::SysDesc { text },
+        15 => EventRef::MarkStart { id: a },
+        16 => EventRef::MarkStop { id: a },
+        17 => EventRef::Idle,
+        18 => EventRef::ToScheduler,
+        19 => EventRef::TimerEnter { timer: a },
+        20 => EventRef::TimerExit,
+        21 => EventRef::StackInfo {
             task: a,
             stack_base: b,
             stack_size: c,
             extra: d,
         },
-        22 => Event::ModuleDesc {
+        22 => EventRef::ModuleDesc {
             module: a,
             offset: b,
-            text: Bytes::new(alloc, text)?,
+            text,
         },
-        24 => Event::Init {
+        24 => EventRef::Init {
             sys_freq: a,
             cpu_freq: b,
             ram_base: c,
             shift: d,
         },
-        25 => Event::NameResource {
-            resource: a,
-            text: Bytes::new(alloc, text)?,
-        },
-        27 => Event::NumModules { count: a },
-        _ => Event::TaskTerminate { task: a },
-    })
+        25 => EventRef::NameResource { resource: a, text },
+        27 => EventRef::NumModules { count: a },
+        _ => EventRef::TaskTerminate { task: a },
+    }
 }

@@ -1,17 +1,16 @@
 //! Payloads under a length field: the forms of the identifiers 24 to 29, and any other as bytes.
-ghost use Rattle.std.specs.Prelude.{◌≡◌, ℕ, ◌≤◌, ◌↔◌, List, length, IsTrue, IfOk, IsErr, MatchOption};
-ghost use Rattle.sv_packet.specs.declared.event.Event.{Event};
+ghost use Rattle.std.specs.Prelude.{◌≡◌, ℕ, ◌≤◌, ◌↔◌, List, length, IsTrue, MatchOption};
+ghost use Rattle.sv_packet.specs.EventRef.{seen};
 ghost use Rattle.sv_packet.specs.Packet.{IsForm};
 ghost use Rattle.sv_packet.specs.Parts.{AreNumbers};
 ghost use Rattle.sv_packet.specs.Forms.{IsFormOf, IsRegularForm, IsCountedId};
-ghost use Rattle.sv_packet.specs.Made.{IsEventOf, HasList};
+ghost use Rattle.sv_packet.specs.Made.{IsEventOf};
 
 use crate::building::regular_event;
-use crate::event::Event;
+use crate::event_ref::EventRef;
+use crate::numbers_ref::NumbersRef;
 use crate::reader::{Four, Reader};
 use crate::shape::{has_text, numbers_before};
-use std::alloc::Global;
-use sv_prim::{Bytes, NoMemory, Numbers};
 
 /// A payload that is a form of its identifier, as it stands in the slice.
 #[derive(Clone, Copy)]
@@ -46,22 +45,6 @@ fn are_numbers(bytes: &[u8], count: u32) -> bool
         };
     }
     reader.at == bytes.len()
-}
-
-/// The numbers that the bytes spell.
-fn numbers(alloc: Global, bytes: &[u8], count: u32) -> Result<Numbers, NoMemory>
-    requires { (numbers : List ℕ) × AreNumbers count numbers bytes.now }
-    ensures { IfOk result (λ numbers. AreNumbers count numbers bytes.now) }
-{
-    let mut items = Vec::with_capacity(alloc, count as usize)?;
-    let mut reader = Reader { bytes, at: 0 };
-    for _ in 0..count {
-        match reader.number() {
-            Ok(number) => items.push_reserved(number),
-            Err(_) => unreachable!(),
-        }
-    }
-    Ok(Numbers::from(items))
 }
 
 /// Numbers and a text, as the identifier tells, if they are the whole payload.
@@ -162,21 +145,16 @@ pub fn is_form(id: u16, payload: &[u8]) -> bool
     find_form(id, payload).is_some()
 }
 
-/// The event of the payload under a length field: of its form, or else the payload as it stands. It
-/// takes memory for a text, arguments or a payload alone.
-pub fn counted_event(alloc: Global, id: u16, payload: &[u8]) -> Result<Event, NoMemory>
+/// The event of the payload under a length field: of its form, or else the payload as it stands.
+#[inline(always)]
+pub fn counted_event(id: u16, payload: &[u8]) -> EventRef<'_>
     requires { IsCountedId id }
-    ensures made { IfOk result (IsEventOf id payload.now) }
-    ensures memory { IsErr result → (event : Event) ×
-        IsEventOf id payload.now event × HasList event }
+    ensures { IsEventOf id payload.now (seen result) }
 {
     match find_form(id, payload) {
-        None => Ok(Event::Opaque {
-            id,
-            payload: Bytes::new(alloc, payload)?,
-        }),
-        Some(Form::Regular { four, text }) => regular_event(alloc, id, four, text),
-        Some(Form::EndCall { event, value }) => Ok(Event::EndCall { event, value }),
+        None => EventRef::Opaque { id, payload },
+        Some(Form::Regular { four, text }) => regular_event(id, four, text),
+        Some(Form::EndCall { event, value }) => EventRef::EndCall { event, value },
         Some(
             Form::Print {
                 text,
@@ -184,10 +162,10 @@ pub fn counted_event(alloc: Global, id: u16, payload: &[u8]) -> Result<Event, No
                 count,
                 args,
             },
-        ) => Ok(Event::Print {
-            text: Bytes::new(alloc, text)?,
+        ) => EventRef::Print {
+            text,
             options,
-            args: numbers(alloc, args, count)?,
-        }),
+            args: NumbersRef::new(args, count),
+        },
     }
 }

@@ -1,16 +1,17 @@
 //! One packet from the front of a slice.
 ghost use Rattle.std.specs.Prelude.{◌≡◌, ◌≢◌, ℕ, ◌≤◌, IfOk, IsErr};
 ghost use Rattle.sv_prim.specs.Code.{Begins, Tells, IsOnly};
-ghost use Rattle.sv_packet.specs.declared.event.Event.{Event};
 ghost use Rattle.sv_packet.specs.declared.event.Packet.{Packet};
 ghost use Rattle.sv_packet.specs.Packet.{IsPacket};
 ghost use Rattle.sv_packet.specs.Reason.{packet_reason};
 ghost use Rattle.sv_packet.specs.Made.{HasList};
+ghost use Rattle.sv_packet.specs.EventRef.{seen, got_seen};
 ghost use Rattle.sv_packet.specs.Read.{ReadsParts, IsToldBy, told_by};
 
 use crate::building::regular_event;
 use crate::counted::counted_event;
-use crate::event::{Event, Packet};
+use crate::event::Packet;
+use crate::event_ref::{EventRef, PacketRef};
 use crate::reader::{Four, Reader, Stop};
 use crate::shape::{has_text, numbers_before};
 use std::alloc::Global;
@@ -28,6 +29,7 @@ pub struct Parts<'a> {
 }
 
 /// The parts of the packet that comes next.
+#[inline(always)]
 fn read_parts<'a>(reader: &mut Reader<'a>) -> Result<Parts<'a>, Stop>
     ensures { ReadsParts reader.old reader.new result }
 {
@@ -60,24 +62,24 @@ fn read_parts<'a>(reader: &mut Reader<'a>) -> Result<Parts<'a>, Stop>
     })
 }
 
-/// The event that the parts tell. It takes memory for a text, arguments or a payload alone.
-fn event_of(alloc: Global, parts: &Parts) -> Result<Event, NoMemory>
+/// The event that the parts tell.
+#[inline(always)]
+fn event_of<'a>(parts: &Parts<'a>) -> EventRef<'a>
     requires known { parts.now.id ≢ 23 }
     requires fits { parts.now.id ≤ 16383 }
-    ensures made { IfOk result (IsToldBy parts.now) }
-    ensures memory { IsErr result → (event : Event) ×
-        IsToldBy parts.now event × HasList event }
+    ensures { IsToldBy parts.now (seen result) }
 {
     if parts.id < 24 {
-        regular_event(alloc, parts.id, parts.four, parts.bytes)
+        regular_event(parts.id, parts.four, parts.bytes)
     } else {
-        counted_event(alloc, parts.id, parts.bytes)
+        counted_event(parts.id, parts.bytes)
     }
 }
 
 /// What a stop says of a slice that was read from its first byte.
-fn stopped(stop: Stop) -> Got<Packet>
-    ensures { result ≡ told_by stop }
+#[inline(always)]
+fn stopped<'a>(stop: Stop) -> Got<PacketRef<'a>>
+    ensures { got_seen result ≡ told_by stop }
 {
     match stop {
         Stop::Short => Got::Short,
@@ -86,11 +88,31 @@ fn stopped(stop: Stop) -> Got<Packet>
 }
 
 /// The packet at the front of the slice: its identifier, from 24 on its payload's length, its
-/// payload and its delta in ticks (UM08027, packet format).
+/// payload and its delta in ticks (UM08027, packet format). Takes no memory: what the event has of
+/// texts, arguments and payload stays in the slice.
 ///
 /// Identifiers and lengths, numbers and texts are read in their shortest form only, and 23 is no
 /// identifier. A payload under a length field is never refused: it is a known event only where it
 /// is a form of its identifier to its last byte, and else it is kept as bytes.
+#[inline(always)]
+pub fn decode_ref(bytes: &[u8]) -> Got<PacketRef<'_>>
+    ensures told { Tells IsPacket packet_reason bytes.now (got_seen result) }
+    ensures only { IsOnly IsPacket bytes.now (got_seen result) }
+{
+    let mut reader = Reader { bytes, at: 0 };
+    match read_parts(&mut reader) {
+        Ok(parts) => Got::Value {
+            value: PacketRef {
+                event: event_of(&parts),
+                delta: parts.delta,
+            },
+            used: reader.at,
+        },
+        Err(stop) => stopped(stop),
+    }
+}
+
+/// The packet at the front of the slice, as [`decode_ref`] tells it, which owns its memory.
 ///
 /// Memory is taken only for an event that has a text, arguments or a payload, once for each, when
 /// the whole packet is there.
@@ -100,18 +122,18 @@ pub fn decode(alloc: Global, bytes: &[u8]) -> Result<Got<Packet>, NoMemory>
     ensures memory { IsErr result → (packet : Packet) × (used : ℕ) ×
         Begins IsPacket bytes.now packet used × HasList packet.event }
 {
-    let mut reader = Reader { bytes, at: 0 };
-    match read_parts(&mut reader) {
-        Ok(parts) => {
-            let event = event_of(alloc, &parts)?;
+    match decode_ref(bytes) {
+        Got::Value { value, used } => {
+            let event = value.event.to_event(alloc)?;
             Ok(Got::Value {
                 value: Packet {
                     event,
-                    delta: parts.delta,
+                    delta: value.delta,
                 },
-                used: reader.at,
+                used,
             })
         }
-        Err(stop) => Ok(stopped(stop)),
+        Got::Short => Ok(Got::Short),
+        Got::Bad { place, reason } => Ok(Got::Bad { place, reason }),
     }
 }

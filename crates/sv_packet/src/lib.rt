@@ -12,9 +12,11 @@ mod counted;
 mod decoding;
 mod encoding;
 mod event;
+mod event_ref;
 mod flat;
 mod forming;
 mod laws;
+mod numbers_ref;
 mod packing;
 mod pen;
 mod reader;
@@ -22,11 +24,13 @@ mod recording;
 mod shape;
 mod spelling;
 
-pub use decoding::decode;
+pub use decoding::{decode, decode_ref};
 pub use encoding::encode;
 pub use event::{Event, Packet, TimedEvent};
+pub use event_ref::{EventRef, PacketRef};
 pub use flat::encode_flat;
 pub use laws::{read_back, spelled_as, spelled_once};
+pub use numbers_ref::NumbersRef;
 pub use recording::recordable;
 pub use spelling::spell;
 

@@ -31,6 +31,7 @@ pub struct Reader<'a> {
 }
 
 /// Whether the byte can be the second of two: the bits from the eighth on, which are not all 0.
+#[inline(always)]
 fn is_second(byte: u8) -> bool
     ensures { IsTrue result ↔ ((0 < byte) × (byte < 128)) }
 {
@@ -38,6 +39,7 @@ fn is_second(byte: u8) -> bool
 }
 
 /// Whether there are so many bytes.
+#[inline(always)]
 fn has(bytes: &[u8], size: usize) -> bool
     ensures many { IsTrue result ↔ (size ≤ length bytes.now) }
     ensures are { AreBytes bytes.now }
@@ -47,6 +49,7 @@ fn has(bytes: &[u8], size: usize) -> bool
 
 /// The identifier or length at the front of the slice: one byte below 128, or two with the low
 /// seven bits first. A second byte of 0, or from 128 on, is refused for the reason.
+#[inline(always)]
 fn get_short(bytes: &[u8], reason: Reason) -> Got<u16>
     ensures { Tells IsShortNumber (Always reason) bytes.now result }
 {
@@ -82,6 +85,7 @@ impl<'a> Reader<'a> {
     ghost use Rattle.sv_packet.specs.Reader.{Reads, ReadsAs, numbers_in};
 
     /// The next number.
+    #[inline(always)]
     pub fn number(&mut self) -> Result<u32, Stop>
         ensures { Reads IsNumber number_reason self.old self.new result }
     {
@@ -99,6 +103,7 @@ impl<'a> Reader<'a> {
     }
 
     /// The next numbers, at most four.
+    #[inline(always)]
     pub fn numbers(&mut self, count: u8) -> Result<Four, Stop>
         requires { count ≤ 4 }
         ensures { ReadsAs (numbers_in count) (AreNumbers count) number_reason
@@ -148,6 +153,7 @@ impl<'a> Reader<'a> {
     }
 
     /// The next text's bytes, or none where there is no text.
+    #[inline(always)]
     pub fn text_if(&mut self, there: bool) -> Result<&'a [u8], Stop>
         ensures { ReadsAs (λ text. text.now) (IsTextIf there) text_reason self.old self.new result }
     {
@@ -158,6 +164,7 @@ impl<'a> Reader<'a> {
     }
 
     /// So many bytes.
+    #[inline(always)]
     pub fn take(&mut self, size: usize) -> Result<&'a [u8], Stop>
         ensures { ReadsAs (λ part. part.now) (IsOfSize size) Never self.old self.new result }
     {
@@ -170,6 +177,7 @@ impl<'a> Reader<'a> {
     }
 
     /// The next identifier or length.
+    #[inline(always)]
     fn short(&mut self, reason: Reason) -> Result<u16, Stop>
         ensures { Reads IsShortNumber (Always reason) self.old self.new result }
     {
@@ -187,6 +195,7 @@ impl<'a> Reader<'a> {
     }
 
     /// The next length of a payload, in bytes.
+    #[inline(always)]
     pub fn length(&mut self) -> Result<u16, Stop>
         ensures { Reads IsShortNumber (Always Reason.BadLength) self.old self.new result }
     {
@@ -194,6 +203,7 @@ impl<'a> Reader<'a> {
     }
 
     /// The next identifier. 23 is none, so it is refused at its byte.
+    #[inline(always)]
     pub fn identifier(&mut self) -> Result<u16, Stop>
         ensures { Reads IsIdentifier (Always Reason.BadId) self.old self.new result }
     {

@@ -3,6 +3,7 @@ ghost use Rattle.std.specs.Prelude.{◌≡◌, ◌≤◌};
 ghost use Rattle.sv_packet.specs.Shape.{number_count, ends_in_text};
 
 /// How many numbers the payload begins with.
+#[inline(always)]
 pub fn numbers_before(id: u16) -> u8
     ensures told { result ≡ number_count id }
     ensures few { result ≤ 4 }
@@ -16,6 +17,7 @@ pub fn numbers_before(id: u16) -> u8
 }
 
 /// Whether a text ends the payload.
+#[inline(always)]
 pub fn has_text(id: u16) -> bool
     ensures { result ≡ ends_in_text id }
 {

@@ -7,6 +7,7 @@ use crate::got::{Got, Reason};
 
 /// Whether no number goes on with this byte: it is a last group that adds nothing, or it has bits
 /// past the 32nd.
+#[inline(always)]
 fn is_refused(place: usize, byte: u8) -> bool
     ensures { IsTrue result ↔ (((0 < place) × (byte ≡ 0)) ⊎ ((place ≡ 4) × (16 ≤ byte))) }
 {
@@ -14,6 +15,7 @@ fn is_refused(place: usize, byte: u8) -> bool
 }
 
 /// The value with the next group of seven bits.
+#[inline(always)]
 fn with_group(value: u32, place: usize, byte: u8) -> u32
     requires few { place ≤ 4 }
     requires below { value < 2 ^ (7 * place) }
@@ -28,6 +30,7 @@ fn with_group(value: u32, place: usize, byte: u8) -> u32
 ///
 /// A number has its shortest form only, so `80 00` is refused at the byte 1, and it is below 2^32,
 /// so a fifth byte above `0F` is refused. At most five bytes are looked at.
+#[inline(always)]
 pub fn get_u32(bytes: &[u8]) -> Got<u32>
     ensures told { Tells IsNumber number_reason bytes.now result }
     ensures only { IsOnly IsNumber bytes.now result }

@@ -1,6 +1,6 @@
 use Rattle.std.proofs.Common.{arith}
 use Rattle.sv_packet.proofs.Counts.{takes_more, not_numbers, numbers_taken}
-use Rattle.sv_packet.proofs.counted.numbers.Goals as goal
+use Rattle.sv_packet.proofs.numbers_ref.numbers.Goals as goal
 
 pub unreachable-requires : goal.unreachable-requires
 unreachable-requires c = not_numbers c.args.count c.loop.counter _ c.loop.reader c.loop.items.items c.in-Err.field-0 c.loop-test.true c.loop.invariant.2 c.in-Err.ensures c.requires

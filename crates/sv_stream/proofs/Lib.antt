@@ -12,5 +12,6 @@ pub mod Times
 pub mod Standing
 pub mod Finishing
 pub mod Giving
+pub mod Fronts
 pub mod Growing
 pub mod Shared

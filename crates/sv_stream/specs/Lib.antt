@@ -3,3 +3,4 @@ pub mod Reads
 pub mod Stage
 pub mod Held
 pub mod Decoding
+pub mod Front

@@ -1,20 +1,26 @@
 //! A recording's events, whatever the pieces in which its bytes come.
-ghost use Rattle.std.specs.Prelude.{◌≡◌, ℕ, ◌+◌, ◌^◌, ◌<◌, ◌≤◌, ◌++◌, List, [], Ok, None, IfOk, OnOk, OnErr, OnSome, IsErrOf, length};
+ghost use Rattle.std.specs.Prelude.{◌≡◌, ℕ, ◌+◌, ◌^◌, ◌<◌, ◌≤◌, ◌↔◌, ◌++◌, ◌∷◌, List, [], Ok, None};
+ghost use Rattle.std.specs.Prelude.{IfOk, OnOk, OnErr, OnSome, IsOk, IsErrOf, MatchOption, length};
+ghost use Rattle.sv_packet.specs.declared.event.Event.{Event};
 ghost use Rattle.sv_packet.specs.declared.event.Packet.{Packet};
 ghost use Rattle.sv_packet.specs.declared.event.TimedEvent.{TimedEvent as Timed};
 ghost use Rattle.sv_packet.specs.Time.{timed};
+ghost use Rattle.sv_packet.specs.EventRef.{seen_at};
 ghost use Rattle.sv_stream.specs.declared.end.End.{End as HowItEnds};
 ghost use Rattle.sv_stream.specs.Reads.{Reads};
-ghost use Rattle.sv_stream.specs.Decoding.{StandsFor, IsSettled, IsThrough, IsNext, pushed, given_after, end_of};
+ghost use Rattle.sv_stream.specs.Decoding.{StandsFor, IsSettled, IsThrough, IsNext, IsNextOf};
+ghost use Rattle.sv_stream.specs.Decoding.{pushed, given_after, end_of};
+ghost use Rattle.sv_stream.specs.Front.{IsFront, HasNoFront, as_next};
 
 use crate::ahead::Ahead;
 use crate::end::End;
 use crate::fault::StreamFault;
+use crate::front::Front;
 use crate::held::Held;
 use crate::stage::{Stage, search};
 use std::alloc::Global;
 use std::marker::Model;
-use sv_packet::{TimedEvent, decode};
+use sv_packet::{TimedEvent, decode_ref};
 use sv_prim::{Got, NoMemory};
 
 /// Reads a recording that comes in pieces: [`push`] takes the next piece, and [`next`] gives the
@@ -96,6 +102,79 @@ impl Decoder {
         Ok(())
     }
 
+    /// The next event as it stands in the bytes held, or None where no event is whole. Takes no
+    /// memory, and leaves the decoder as it is: [`pass`] goes on behind the event.
+    ///
+    /// [`pass`]: Decoder::pass
+    #[inline(always)]
+    pub fn front(&self) -> Option<Front<'_>>
+        ensures front { MatchOption result (HasNoFront self.now)
+            (λ front. IsFront self.now front.used (seen_at front.time front.event)) }
+        ensures next { (input : List ℕ) → (given : List Timed) → StandsFor self.now input given →
+            (packets : List Packet) → (end : HowItEnds) → Reads input packets end →
+            MatchOption result (given ≡ timed packets)
+            (λ front. IsNextOf given (timed packets) (seen_at front.time front.event)) }
+    {
+        match decode_ref(self.held.bytes()) {
+            Got::Value { value, used } => Some(Front {
+                time: self.time + u64::from(value.delta),
+                event: value.event,
+                used,
+            }),
+            Got::Short => None,
+            Got::Bad { .. } => None,
+        }
+    }
+
+    /// The event that [`front`] has shown is given: its packet has so many bytes, and it has this
+    /// time in ticks.
+    ///
+    /// [`front`]: Decoder::front
+    #[inline(always)]
+    pub fn pass(&mut self, used: usize, time: u64)
+        requires { (event : Event) × IsFront self.old used (record { time = time; event = event }) }
+        ensures stands { (event : Event) → IsFront self.old used (record { time = time; event = event }) →
+            (input : List ℕ) → (given : List Timed) → StandsFor self.old input given →
+            StandsFor self.new input (given ++ record { time = time; event = event } ∷ []) }
+        ensures pushed { pushed self.new ≡ pushed self.old }
+        ensures room { self.new.room ≡ self.old.room }
+        ensures fewer { length self.new.held < length self.old.held }
+    {
+        // Nothing was known of the bytes held, since a packet stands there: so it stays.
+        self.held.advance(used);
+        self.place += used as u64;
+        self.time = time;
+    }
+
+    /// Where no event stands at the front: whether the input goes on, or is damaged with which byte
+    /// and why. After Ok at most 65,553 bytes are held.
+    pub fn settle(&mut self) -> Result<(), StreamFault>
+        requires { HasNoFront self.old }
+        ensures next { (input : List ℕ) → (given : List Timed) → StandsFor self.old input given →
+            (packets : List Packet) → (end : HowItEnds) → Reads input packets end →
+            IsNext given (timed packets) end (as_next result) }
+        ensures stands { (input : List ℕ) → (given : List Timed) →
+            StandsFor self.old input given ↔ StandsFor self.new input given }
+        ensures settled { IsThrough (as_next result) × IsSettled self.new }
+        ensures pushed { pushed self.new ≡ pushed self.old }
+        ensures room { self.new.room ≡ self.old.room }
+        ensures held { self.new.held ≡ self.old.held }
+        ensures bound { IsOk result → length self.new.held ≤ 65553 }
+    {
+        match decode_ref(self.held.bytes()) {
+            Got::Value { .. } => unreachable!(),
+            Got::Short => {
+                self.ahead = Ahead::Short;
+                Ok(())
+            }
+            Got::Bad { place, reason } => {
+                let place = self.place + place as u64;
+                self.ahead = Ahead::Bad { place, reason };
+                Err(StreamFault::Damaged { place, reason })
+            }
+        }
+    }
+
     /// The next event, or None where the input so far has no more of them and is not damaged: then
     /// it ends inside a packet, or behind one, or before the first.
     ///
@@ -119,28 +198,19 @@ impl Decoder {
         ensures bound { result ≡ Ok None → length self.new.held ≤ 65553 }
         ensures unchanged { IsErrOf result StreamFault.NoMemory → self.new ≡ self.old }
     {
-        match decode(self.alloc, self.held.bytes()) {
-            Ok(Got::Value { value, used }) => {
-                // Nothing was known of the bytes held, since a packet stands there: so it stays.
-                self.held.advance(used);
-                self.place += used as u64;
-                self.time += u64::from(value.delta);
-                Ok(Some(TimedEvent {
-                    time: self.time,
-                    event: value.event,
-                }))
-            }
-            Ok(Got::Short) => {
-                self.ahead = Ahead::Short;
-                Ok(None)
-            }
-            Ok(Got::Bad { place, reason }) => {
-                let place = self.place + place as u64;
-                self.ahead = Ahead::Bad { place, reason };
-                Err(StreamFault::Damaged { place, reason })
-            }
-            Err(NoMemory) => Err(StreamFault::NoMemory),
-        }
+        let Some(front) = self.front() else {
+            return match self.settle() {
+                Ok(()) => Ok(None),
+                Err(fault) => Err(fault),
+            };
+        };
+        let event = match front.event.to_event(self.alloc) {
+            Ok(event) => event,
+            Err(NoMemory) => return Err(StreamFault::NoMemory),
+        };
+        let (used, time) = (front.used, front.time);
+        self.pass(used, time);
+        Ok(Some(TimedEvent { time, event }))
     }
 
     /// How the input ends. To be asked where [`next`] has answered None or Damaged since the last

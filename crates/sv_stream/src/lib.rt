@@ -9,6 +9,7 @@ mod ahead;
 mod decoder;
 mod end;
 mod fault;
+mod front;
 mod held;
 mod laws;
 mod stage;
@@ -16,6 +17,7 @@ mod stage;
 pub use decoder::Decoder;
 pub use end::End;
 pub use fault::StreamFault;
+pub use front::Front;
 pub use laws::{given_first, read_on, read_once};
 
 #[cfg(test)]

@@ -1,4 +1,5 @@
 pub mod Lines
 pub mod Ends
 pub mod Words
+pub mod Told
 pub mod Growth

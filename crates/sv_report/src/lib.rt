@@ -6,6 +6,8 @@
 
 mod ends;
 mod events;
+mod head;
+mod table;
 mod texts;
 
 pub use ends::{end_line, reason_number};

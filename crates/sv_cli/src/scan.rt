@@ -16,7 +16,6 @@ use crate::status::Status;
 use crate::view::View;
 use std::alloc::Global;
 use sv_base::{Failed, Sink, Source, fill, put_all};
-use sv_packet::TimedEvent;
 use sv_prim::NoMemory;
 use sv_report::reason_number;
 use sv_stream::{Decoder, End, StreamFault};
@@ -50,17 +49,6 @@ pub struct Scan<V: View + Drop> {
     pub total: u64,
 }
 
-/// Shows an event to the view, and drops it.
-fn show<V: View>(view: &mut V, event: TimedEvent, lines: &mut Vec<u8>) -> Result<(), NoMemory>
-    requires { (earlier : List Timed) × V.shown view.old earlier × (length earlier < 2 ^ 33) }
-    ensures shown { (earlier : List Timed) → V.shown view.old earlier →
-        OnOk result (V.shown view.new (earlier ++ event ∷ [])) }
-    ensures line { (earlier : List Timed) → V.shown view.old earlier →
-        OnOk result (lines.new.items ≡ lines.old.items ++ V.text.line earlier event) }
-{
-    view.event(&event, lines)
-}
-
 /// Shows all events that are whole so far, and says whether the input is damaged after them.
 fn drain<V: View>(
     decoder: &mut Decoder,
@@ -75,12 +63,16 @@ fn drain<V: View>(
         × IsDrained decoder.old decoder.new events damaged) }
 {
     loop {
-        match decoder.next() {
-            Ok(Some(event)) => show(view, event, lines)?,
-            Ok(None) => return Ok(false),
-            Err(StreamFault::Damaged { .. }) => return Ok(true),
-            Err(StreamFault::NoMemory) => return Err(NoMemory),
-        }
+        let Some(front) = decoder.front() else {
+            return match decoder.settle() {
+                Ok(()) => Ok(false),
+                Err(StreamFault::Damaged { .. }) => Ok(true),
+                Err(StreamFault::NoMemory) => unreachable!(),
+            };
+        };
+        view.event(front.time, &front.event, lines)?;
+        let (used, time) = (front.used, front.time);
+        decoder.pass(used, time);
     }
 }
 

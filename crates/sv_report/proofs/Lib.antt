@@ -1,3 +1,4 @@
 pub mod Joined
 pub mod Front
 pub mod Grown
+pub mod Arguments

@@ -1,11 +1,11 @@
 //! The table of lines: of each event the name, the numbers behind it, and what then follows.
 ghost use Rattle.std.specs.Prelude.{◌≡◌, ℕ, ◌-◌, ◌≤◌, ◌∷◌, ◌++◌, map, take, drop};
 ghost use Rattle.std.specs.Fmt.{decimal};
+ghost use Rattle.sv_packet.specs.EventRef.{seen};
 ghost use Rattle.sv_report.specs.Lines.{event_words};
 ghost use Rattle.sv_report.specs.Told.{told_words, rest_words};
 
-use sv_packet::Event;
-use sv_prim::Numbers;
+use sv_packet::{EventRef, NumbersRef};
 
 /// What a line tells behind its time.
 #[derive(Clone, Copy)]
@@ -31,7 +31,7 @@ pub enum Rest<'a> {
     Print {
         text: &'a [u8],
         options: u32,
-        args: &'a Numbers,
+        args: &'a NumbersRef<'a>,
     },
 }
 
@@ -71,26 +71,26 @@ fn plain(name: &'static [u8; 16], size: usize, numbers: [u32; 4], count: usize) 
 
 /// What the event's line tells.
 #[inline(always)]
-pub fn told_of(event: &Event) -> Told<'_>
-    ensures words { told_words result ≡ event_words event.now }
+pub fn told_of<'a>(event: &'a EventRef<'a>) -> Told<'a>
+    ensures words { told_words result ≡ event_words (seen event.now) }
     ensures room { (result.size ≤ 16) × (result.count ≤ 4) }
 {
     match event {
-        Event::Nop => plain(b"             NOP", 3, [0, 0, 0, 0], 0),
-        Event::Overflow { count } => plain(b"        OVERFLOW", 8, [*count, 0, 0, 0], 1),
-        Event::IsrEnter { isr } => plain(b"       ISR_ENTER", 9, [*isr, 0, 0, 0], 1),
-        Event::IsrExit => plain(b"        ISR_EXIT", 8, [0, 0, 0, 0], 0),
-        Event::TaskStart { task } => plain(b" TASK_START_EXEC", 15, [*task, 0, 0, 0], 1),
-        Event::TaskStop => plain(b"  TASK_STOP_EXEC", 14, [0, 0, 0, 0], 0),
-        Event::TaskReady { task } => plain(b"TASK_START_READY", 16, [*task, 0, 0, 0], 1),
-        Event::TaskUnready { task, cause } => plain(
+        EventRef::Nop => plain(b"             NOP", 3, [0, 0, 0, 0], 0),
+        EventRef::Overflow { count } => plain(b"        OVERFLOW", 8, [*count, 0, 0, 0], 1),
+        EventRef::IsrEnter { isr } => plain(b"       ISR_ENTER", 9, [*isr, 0, 0, 0], 1),
+        EventRef::IsrExit => plain(b"        ISR_EXIT", 8, [0, 0, 0, 0], 0),
+        EventRef::TaskStart { task } => plain(b" TASK_START_EXEC", 15, [*task, 0, 0, 0], 1),
+        EventRef::TaskStop => plain(b"  TASK_STOP_EXEC", 14, [0, 0, 0, 0], 0),
+        EventRef::TaskReady { task } => plain(b"TASK_START_READY", 16, [*task, 0, 0, 0], 1),
+        EventRef::TaskUnready { task, cause } => plain(
             b" TASK_STOP_READY",
             15,
             [*task, *cause, 0, 0],
             2,
         ),
-        Event::TaskCreate { task } => plain(b"     TASK_CREATE", 11, [*task, 0, 0, 0], 1),
-        Event::TaskInfo {
+        EventRef::TaskCreate { task } => plain(b"     TASK_CREATE", 11, [*task, 0, 0, 0], 1),
+        EventRef::TaskInfo {
             task,
             priority,
             name,
@@ -100,29 +100,23 @@ pub fn told_of(event: &Event) -> Told<'_>
                 9,
                 [*task, *priority, 0, 0],
                 2,
-                Rest::Text(name.bytes()),
+                Rest::Text(name),
             )
         }
-        Event::TraceStart => plain(b"     TRACE_START", 11, [0, 0, 0, 0], 0),
-        Event::TraceStop => plain(b"      TRACE_STOP", 10, [0, 0, 0, 0], 0),
-        Event::SystimeCycles { value } => plain(b"  SYSTIME_CYCLES", 14, [*value, 0, 0, 0], 1),
-        Event::SystimeUs { low, high } => plain(b"      SYSTIME_US", 10, [*low, *high, 0, 0], 2),
-        Event::SysDesc { text } => {
-            with_rest(
-                b"         SYSDESC",
-                7,
-                [0, 0, 0, 0],
-                0,
-                Rest::Text(text.bytes()),
-            )
+        EventRef::TraceStart => plain(b"     TRACE_START", 11, [0, 0, 0, 0], 0),
+        EventRef::TraceStop => plain(b"      TRACE_STOP", 10, [0, 0, 0, 0], 0),
+        EventRef::SystimeCycles { value } => plain(b"  SYSTIME_CYCLES", 14, [*value, 0, 0, 0], 1),
+        EventRef::SystimeUs { low, high } => plain(b"      SYSTIME_US", 10, [*low, *high, 0, 0], 2),
+        EventRef::SysDesc { text } => {
+            with_rest(b"         SYSDESC", 7, [0, 0, 0, 0], 0, Rest::Text(text))
         }
-        Event::MarkStart { id } => plain(b"      MARK_START", 10, [*id, 0, 0, 0], 1),
-        Event::MarkStop { id } => plain(b"       MARK_STOP", 9, [*id, 0, 0, 0], 1),
-        Event::Idle => plain(b"            IDLE", 4, [0, 0, 0, 0], 0),
-        Event::ToScheduler => plain(b"ISR_TO_SCHEDULER", 16, [0, 0, 0, 0], 0),
-        Event::TimerEnter { timer } => plain(b"     TIMER_ENTER", 11, [*timer, 0, 0, 0], 1),
-        Event::TimerExit => plain(b"      TIMER_EXIT", 10, [0, 0, 0, 0], 0),
-        Event::StackInfo {
+        EventRef::MarkStart { id } => plain(b"      MARK_START", 10, [*id, 0, 0, 0], 1),
+        EventRef::MarkStop { id } => plain(b"       MARK_STOP", 9, [*id, 0, 0, 0], 1),
+        EventRef::Idle => plain(b"            IDLE", 4, [0, 0, 0, 0], 0),
+        EventRef::ToScheduler => plain(b"ISR_TO_SCHEDULER", 16, [0, 0, 0, 0], 0),
+        EventRef::TimerEnter { timer } => plain(b"     TIMER_ENTER", 11, [*timer, 0, 0, 0], 1),
+        EventRef::TimerExit => plain(b"      TIMER_EXIT", 10, [0, 0, 0, 0], 0),
+        EventRef::StackInfo {
             task,
             stack_base,
             stack_size,
@@ -135,7 +129,7 @@ pub fn told_of(event: &Event) -> Told<'_>
                 4,
             )
         }
-        Event::ModuleDesc {
+        EventRef::ModuleDesc {
             module,
             offset,
             text,
@@ -145,10 +139,10 @@ pub fn told_of(event: &Event) -> Told<'_>
                 10,
                 [*module, *offset, 0, 0],
                 2,
-                Rest::Text(text.bytes()),
+                Rest::Text(text),
             )
         }
-        Event::Init {
+        EventRef::Init {
             sys_freq,
             cpu_freq,
             ram_base,
@@ -161,41 +155,41 @@ pub fn told_of(event: &Event) -> Told<'_>
                 4,
             )
         }
-        Event::NameResource { resource, text } => {
+        EventRef::NameResource { resource, text } => {
             with_rest(
                 b"   NAME_RESOURCE",
                 13,
                 [*resource, 0, 0, 0],
                 1,
-                Rest::Text(text.bytes()),
+                Rest::Text(text),
             )
         }
-        Event::Print {
+        EventRef::Print {
             text,
             options,
             args,
         } => {
             let rest = Rest::Print {
-                text: text.bytes(),
+                text,
                 options: *options,
                 args,
             };
             with_rest(b" PRINT_FORMATTED", 15, [0, 0, 0, 0], 0, rest)
         }
-        Event::NumModules { count } => plain(b"      NUMMODULES", 10, [*count, 0, 0, 0], 1),
-        Event::EndCall { event, value: None } => plain(
+        EventRef::NumModules { count } => plain(b"      NUMMODULES", 10, [*count, 0, 0, 0], 1),
+        EventRef::EndCall { event, value: None } => plain(
             b"        END_CALL",
             8,
             [*event, 0, 0, 0],
             1,
         ),
-        Event::EndCall {
+        EventRef::EndCall {
             event,
             value: Some(value),
         } => { plain(b"        END_CALL", 8, [*event, *value, 0, 0], 2) }
-        Event::TaskTerminate { task } => plain(b"  TASK_TERMINATE", 14, [*task, 0, 0, 0], 1),
-        Event::Opaque { id, payload } => {
-            let rest = Rest::Payload(payload.bytes());
+        EventRef::TaskTerminate { task } => plain(b"  TASK_TERMINATE", 14, [*task, 0, 0, 0], 1),
+        EventRef::Opaque { id, payload } => {
+            let rest = Rest::Payload(payload);
             with_rest(b"          OPAQUE", 6, [u32::from(*id), 0, 0, 0], 1, rest)
         }
     }

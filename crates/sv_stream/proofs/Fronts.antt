@@ -1,5 +1,5 @@
 -- A decoder at whose front an event stands, and behind it.
-use Rattle.std.proofs.Common.{◌≡◌, ℕ, ◌+◌, List, [], ◌∷◌, ◌++◌, drop, refl, sym, ap, subst, ◌∙◌}
+use Rattle.std.proofs.Common.{◌≡◌, ℕ, ◌+◌, ◌<◌, arith, length, List, [], ◌∷◌, ◌++◌, drop, refl, sym, ap, subst, ◌∙◌}
 use Rattle.sv_prim.specs.Code.{Begins, IsCutShort, BreaksAt}
 use Rattle.sv_prim.proofs.Codes.{begins_not_cut, begins_not_breaks}
 use Rattle.sv_packet.specs.declared.event.Event.{Event}
@@ -9,6 +9,7 @@ use Rattle.sv_packet.specs.Packet.{IsPacket}
 use Rattle.sv_stream.specs.Decoding.{Decoding, StandsFor, IsDecoder}
 use Rattle.sv_stream.specs.Front.{IsFront, HasNoFront}
 use Rattle.sv_stream.proofs.Packets.{readable}
+use Rattle.sv_stream.proofs.Sizes.{two_bytes}
 use Rattle.sv_stream.proofs.Giving.{at_time, past_keeps, past_stands}
 
 pub front_of : (decoder view : Decoding) (packet : Packet) (used more : ℕ) (event : Event)
@@ -63,3 +64,10 @@ no_front_bad decoder view count same breaks =
     subst HasNoFront same
     (λ packet used begins.
     begins_not_breaks IsPacket readable.free view.held packet used count begins breaks)
+
+-- an event stands in bytes
+pub front_held : (decoder : Decoding) (used : ℕ) (event : TimedEvent) → IsFront decoder used event
+    → 0 < length decoder.held
+front_held decoder used event front =
+    omega
+    (arith, two_bytes decoder.held front.packet used front.begins, front.begins.within)

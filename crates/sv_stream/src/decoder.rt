@@ -110,6 +110,7 @@ impl Decoder {
     pub fn front(&self) -> Option<Front<'_>>
         ensures front { MatchOption result (HasNoFront self.now)
             (λ front. IsFront self.now front.used (seen_at front.time front.event)) }
+        ensures held { OnSome result (0 < length self.now.held) }
         ensures next { (input : List ℕ) → (given : List Timed) → StandsFor self.now input given →
             (packets : List Packet) → (end : HowItEnds) → Reads input packets end →
             MatchOption result (given ≡ timed packets)

@@ -5,7 +5,7 @@ ghost use Rattle.sv_cli.specs.commands.Check.{check_text, numbered, last_time};
 use crate::view::View;
 use itoa::Buffer;
 use std::alloc::AllocError;
-use sv_packet::TimedEvent;
+use sv_packet::EventRef;
 use sv_prim::NoMemory;
 use sv_report::end_line;
 use sv_stream::End;
@@ -46,9 +46,15 @@ impl View for Check {
       time = last_time 0 events;
     } };
 
-    fn event(&mut self, event: &TimedEvent, _lines: &mut Vec<u8>) -> Result<(), NoMemory> {
+    #[inline(always)]
+    fn event(
+        &mut self,
+        time: u64,
+        _event: &EventRef<'_>,
+        _lines: &mut Vec<u8>,
+    ) -> Result<(), NoMemory> {
         self.packets += 1;
-        self.time = event.time;
+        self.time = time;
         Ok(())
     }
 

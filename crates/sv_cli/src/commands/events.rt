@@ -2,7 +2,7 @@
 ghost use Rattle.sv_cli.specs.commands.Events.{events_text};
 
 use crate::view::View;
-use sv_packet::TimedEvent;
+use sv_packet::EventRef;
 use sv_prim::NoMemory;
 use sv_report::{end_line, event_line};
 use sv_stream::End;
@@ -16,8 +16,14 @@ impl View for Events {
 
     ghost shown = { λ view events. Unit {0} };
 
-    fn event(&mut self, event: &TimedEvent, lines: &mut Vec<u8>) -> Result<(), NoMemory> {
-        event_line(event, lines)
+    #[inline(always)]
+    fn event(
+        &mut self,
+        time: u64,
+        event: &EventRef<'_>,
+        lines: &mut Vec<u8>,
+    ) -> Result<(), NoMemory> {
+        event_line(time, event, lines)
     }
 
     fn end(&self, end: &End, lines: &mut Vec<u8>) -> Result<(), NoMemory> {

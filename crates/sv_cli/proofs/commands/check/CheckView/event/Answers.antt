@@ -1,12 +1,13 @@
 use Rattle.std.proofs.Common.{◌≡◌, ℕ, ◌+◌, [], ◌∷◌, ◌++◌, length, arith, ap, sym, ◌∙◌}
 use Rattle.std.proofs.Common.{length-append}
+use Rattle.sv_packet.specs.EventRef.{seen_at}
 use Rattle.sv_cli.specs.declared.commands.check.Check.{Check}
 use Rattle.sv_cli.proofs.Lines.{last_time-push}
 use Rattle.sv_cli.proofs.commands.check.CheckView.event.Goals as goal
 
 pub returns-clause-shown : goal.returns-clause-shown
 returns-clause-shown c = λ earlier is.
-    let event = c.args.event.now in
+    let event = seen_at c.args.time c.args.event.now in
     let packets : c.args.self.now.packets + 1 ≡ length (earlier ++ event ∷ []) = omega
     (arith, ap (λ (k : Check). k.packets) is, length-append earlier (event ∷ [])) in
     ap (λ (n : ℕ). record { packets = n; time = event.time }) packets

@@ -1,10 +1,11 @@
 -- Lines that are written from their end to their start.
-use Rattle.std.proofs.Common.{◌≡◌, ℕ, ◌+◌, ◌-◌, ◌^◌, ◌<◌, ◌≤◌, List, [], ◌∷◌, ◌++◌, ap, sym, ◌∙◌, arith}
-use Rattle.std.proofs.Common.{length, take, drop, set, get_or, flat_map}
+use Rattle.std.proofs.Common.{◌≡◌, ℕ, ◌+◌, ◌-◌, ◌^◌, ◌<◌, ◌≤◌, List, [], ◌∷◌, ◌++◌, ap, sym, ◌∙◌}
+use Rattle.std.proofs.Common.{length, take, drop, set, get_or, flat_map, arith}
 use Rattle.std.specs.Fmt.{decimal}
 use Rattle.std.proofs.lemmas.Fmt.{length-decimal-le}
-use Rattle.std.proofs.lemmas.List.{take_all, take_at, drop-set, drop-drop, drop_at, drop-append-le, length-take}
-use Rattle.std.proofs.lemmas.List.{length-append, length-drop, append_assoc, at_drop_more}
+use Rattle.std.proofs.lemmas.List.{take_all, take_at, drop-set, drop-drop, drop_at, drop-append-le}
+use Rattle.std.proofs.lemmas.List.{length-take, length-append, length-drop, append_assoc}
+use Rattle.std.proofs.lemmas.List.{at_drop_more}
 use borrow.Rule.Slice.PartMut.{put_mid}
 use Rattle.sv_report.specs.Words.{spaced_number}
 

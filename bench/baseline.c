@@ -1,7 +1,7 @@
-/* The commands `events F` and `check F` in plain C, with the same text and the same exit codes: what
- * they are measured against. It is written for speed: it reads through one buffer by read(2), writes
- * through another by write(2), and a packet is decoded without a look at the end of what is held,
- * behind which zeros stand, so that what reads past it stops there.
+/* The commands `events F` and `check F` in plain C, with the same text and the same exit codes:
+ * what they are measured against. It is written for speed: it reads through one buffer by read(2),
+ * writes through another by write(2), and a packet is decoded without a look at the end of what is
+ * held, behind which zeros stand, so that what reads past it stops there.
  * Usage: baseline events F | check F */
 #define _POSIX_C_SOURCE 200809L
 #include <fcntl.h>
@@ -42,11 +42,11 @@ static char *put_text(char *at, const char *text) {
 }
 
 static const char pairs[] =
-    "00010203040506070809101112131415161718192021222324252627282930313233343536373839404142434445464748"
-    "49505152535455565758596061626364656667686970717273747576777879808182838485868788899091929394959697"
-    "9899";
+    "00010203040506070809101112131415161718192021222324252627282930313233343536373839"
+    "40414243444546474849505152535455565758596061626364656667686970717273747576777879"
+    "8081828384858687888990919293949596979899";
 
-/* The digits are made from the last to the first; then 20 bytes go out, whatever stands behind them. */
+/* The digits are made from the last to the first; then 20 bytes go out, whatever is behind. */
 static char *put_long(char *at, uint64_t n) {
     char digits[40];
     char *first = digits + 20;
@@ -169,23 +169,25 @@ static const byte *text(const byte *at, const byte *limit, const byte **t, size_
     return at + n;
 }
 
-enum { TASK_INFO = 9, SYSDESC = 14, MODULEDESC = 22, DATA_SAMPLE, INIT, NAME_RESOURCE, PRINT_FORMATTED, KINDS = 30 };
+enum { DATA_SAMPLE = 23, INIT, NAME_RESOURCE, PRINT_FORMATTED, KINDS = 30 };
 
-/* By identifier: the name, and how many numbers are wanted at least and at most, and whether a text is. */
+/* By identifier: the name, how many numbers are wanted at least and at most, and whether a text. */
 static const struct kind {
     char name[16];
     byte length, least, most, text;
 } kinds[KINDS] = {
 #define KIND(name, ...) {name, sizeof name - 1, __VA_ARGS__}
-    KIND("NOP", 0, 0, 0), KIND("OVERFLOW", 1, 1, 0), KIND("ISR_ENTER", 1, 1, 0), KIND("ISR_EXIT", 0, 0, 0),
-    KIND("TASK_START_EXEC", 1, 1, 0), KIND("TASK_STOP_EXEC", 0, 0, 0), KIND("TASK_START_READY", 1, 1, 0),
-    KIND("TASK_STOP_READY", 2, 2, 0), KIND("TASK_CREATE", 1, 1, 0), KIND("TASK_INFO", 2, 2, 1),
-    KIND("TRACE_START", 0, 0, 0), KIND("TRACE_STOP", 0, 0, 0), KIND("SYSTIME_CYCLES", 1, 1, 0),
-    KIND("SYSTIME_US", 2, 2, 0), KIND("SYSDESC", 0, 0, 1), KIND("MARK_START", 1, 1, 0), KIND("MARK_STOP", 1, 1, 0),
+    KIND("NOP", 0, 0, 0), KIND("OVERFLOW", 1, 1, 0), KIND("ISR_ENTER", 1, 1, 0),
+    KIND("ISR_EXIT", 0, 0, 0), KIND("TASK_START_EXEC", 1, 1, 0), KIND("TASK_STOP_EXEC", 0, 0, 0),
+    KIND("TASK_START_READY", 1, 1, 0), KIND("TASK_STOP_READY", 2, 2, 0),
+    KIND("TASK_CREATE", 1, 1, 0), KIND("TASK_INFO", 2, 2, 1), KIND("TRACE_START", 0, 0, 0),
+    KIND("TRACE_STOP", 0, 0, 0), KIND("SYSTIME_CYCLES", 1, 1, 0), KIND("SYSTIME_US", 2, 2, 0),
+    KIND("SYSDESC", 0, 0, 1), KIND("MARK_START", 1, 1, 0), KIND("MARK_STOP", 1, 1, 0),
     KIND("IDLE", 0, 0, 0), KIND("ISR_TO_SCHEDULER", 0, 0, 0), KIND("TIMER_ENTER", 1, 1, 0),
-    KIND("TIMER_EXIT", 0, 0, 0), KIND("STACK_INFO", 4, 4, 0), KIND("MODULEDESC", 2, 2, 1), KIND("", 0, 0, 0),
-    KIND("INIT", 4, 4, 0), KIND("NAME_RESOURCE", 1, 1, 1), KIND("PRINT_FORMATTED", 0, 0, 0),
-    KIND("NUMMODULES", 1, 1, 0), KIND("END_CALL", 1, 2, 0), KIND("TASK_TERMINATE", 1, 1, 0)};
+    KIND("TIMER_EXIT", 0, 0, 0), KIND("STACK_INFO", 4, 4, 0), KIND("MODULEDESC", 2, 2, 1),
+    KIND("", 0, 0, 0), KIND("INIT", 4, 4, 0), KIND("NAME_RESOURCE", 1, 1, 1),
+    KIND("PRINT_FORMATTED", 0, 0, 0), KIND("NUMMODULES", 1, 1, 0), KIND("END_CALL", 1, 2, 0),
+    KIND("TASK_TERMINATE", 1, 1, 0)};
 
 struct packet {
     uint32_t id, count, numbers[4], delta, arg_count;

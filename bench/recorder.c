@@ -1,7 +1,7 @@
-/* The command `record W` in plain C, with the same recording, the same lines and the same exit codes:
- * what it is measured against. It reads the workload whole and makes steps of its lines, each in one
- * pass; then it plays the steps over a ring, from which the host takes everything behind each step, and
- * writes what it took whenever a buffer is full.
+/* The command `record W` in plain C, with the same recording, the same lines and the same exit
+ * codes: what it is measured against. It reads the workload whole and makes steps of its lines,
+ * each in one pass; then it plays the steps over a ring, from which the host takes everything
+ * behind each step, and writes what it took whenever a buffer is full.
  * Usage: recorder record W */
 #define _POSIX_C_SOURCE 200809L
 #include <fcntl.h>
@@ -15,7 +15,9 @@
 typedef unsigned char byte;
 
 enum { MOST_BYTES = 1 << 26, MOST_STEPS = 1 << 20, MOST_TURNS = 1 << 20, MOST_RING = 65536 };
-enum { UNKNOWN_WORD = 1, SHAPE, NUMBER, REPEATED, TOO_MANY, UNALIGNED, MISPLACED, BAD_TEXT, NO_WRITER };
+enum {
+    UNKNOWN_WORD = 1, SHAPE, NUMBER, REPEATED, TOO_MANY, UNALIGNED, MISPLACED, BAD_TEXT, NO_WRITER
+};
 #define MOST_32 4294967295u
 
 enum keyword {
@@ -69,9 +71,9 @@ static const struct form {
 
 /* The identifiers of packets whose payload is the numbers of their step. */
 static const byte plain_ids[] = {
-    [NOP] = 0, [ISR] = 2, [ISR_EXIT] = 3, [RUN] = 4, [HALT] = 5, [READY] = 6, [UNREADY] = 7, [CREATE] = 8,
-    [TERMINATE] = 29, [MARK] = 15, [MARK_END] = 16, [IDLE] = 17, [SCHED] = 18, [TIMER] = 19, [TIMER_EXIT] = 20,
-    [RETURN] = 28};
+    [NOP] = 0, [ISR] = 2, [ISR_EXIT] = 3, [RUN] = 4, [HALT] = 5, [READY] = 6, [UNREADY] = 7,
+    [CREATE] = 8, [TERMINATE] = 29, [MARK] = 15, [MARK_END] = 16, [IDLE] = 17, [SCHED] = 18,
+    [TIMER] = 19, [TIMER_EXIT] = 20, [RETURN] = 28};
 
 /* A step takes room for the numbers that it has. */
 struct step {
@@ -94,8 +96,8 @@ static uint32_t settings[5] = {1024, 1000000, 1000000, 536870912, 2};
 static bool told[5], scheduled;
 static uint32_t tasks[32], task_count, writers, step_count, starts, turns;
 
-/* Passes over the word, which a space or a line feed ends. In `good` stays whether all words so far are
- * numbers. One of more than 19 digits is the largest of all, past every limit. */
+/* Passes over the word, which a space or a line feed ends. In `good` stays whether all words so far
+ * are numbers. One of more than 19 digits is the largest of all, past every limit. */
 static inline const byte *number(const byte *at, bool *good, uint64_t *n) {
     const byte *from = at;
     uint64_t value = 0;
@@ -106,7 +108,7 @@ static inline const byte *number(const byte *at, bool *good, uint64_t *n) {
     return at;
 }
 
-/* The keywords by their first 8 bytes and their length; a place that is taken sends on to the next. */
+/* The keywords by their first 8 bytes and their length; a place that is taken leads to the next. */
 static uint64_t keys[UNKNOWN];
 static byte places[128];
 
@@ -137,7 +139,8 @@ static inline enum keyword keyword_of(const byte *word, size_t length) {
     for (size_t place = place_of(key);; place = (place + 1) % sizeof places) {
         enum keyword k = places[place];
         if (k == UNKNOWN) return UNKNOWN;
-        if (keys[k] == key && forms[k].length == length && (length <= 8 || memcmp(forms[k].word, word, length) == 0))
+        if (keys[k] == key && forms[k].length == length &&
+            (length <= 8 || memcmp(forms[k].word, word, length) == 0))
             return k;
     }
 }
@@ -158,7 +161,8 @@ static inline int cut(struct line *l, const struct form *f, const byte *at, bool
         if (count == most || *at == ' ' || *at == '\n') return SHAPE;
         uint64_t n;
         at = number(at, good, &n);
-        if (n < (count ? f->other_least : f->least) || n > (count ? f->other_most : f->most)) *good = false;
+        if (n < (count ? f->other_least : f->least) || n > (count ? f->other_most : f->most))
+            *good = false;
         l->numbers[count] = n;
     }
     l->count = count;
@@ -168,7 +172,8 @@ static inline int cut(struct line *l, const struct form *f, const byte *at, bool
     return 0;
 }
 
-/* Whether all bytes are from 20 to 7E: eight at once, where none of them then has or gets its highest bit. */
+/* Whether all bytes are from 20 to 7E: eight at once, where none of them then has or gets its
+ * highest bit. */
 static bool printable(const byte *text, size_t length) {
     const uint64_t ones = 0x0101010101010101;
     uint64_t bits = 0, eight;
@@ -250,8 +255,10 @@ static int take_line(const byte *at, const byte *end) {
     if (l.advance > 8589934592u) good = false;
     if (cut(&l, f, at, &good) != 0) return SHAPE;
     if (!good) return NUMBER;
-    if (f->text > 0 && (end - l.text > f->text || !printable(l.text, (size_t)(end - l.text)))) return BAD_TEXT;
-    if (f->identifier && (offset(l.numbers[0]) & ((1u << settings[SHIFT]) - 1)) != 0) return UNALIGNED;
+    if (f->text > 0 && (end - l.text > f->text || !printable(l.text, (size_t)(end - l.text))))
+        return BAD_TEXT;
+    if (f->identifier && (offset(l.numbers[0]) & ((1u << settings[SHIFT]) - 1)) != 0)
+        return UNALIGNED;
     if (l.keyword <= TASK && repeated(&l)) return REPEATED;
     if (too_many(l.keyword)) return TOO_MANY;
     if (l.keyword == STEP && l.numbers[0] >= writers) return NO_WRITER;
@@ -317,8 +324,8 @@ static bool on;
 static uint64_t moment, last;
 static uint32_t pending;
 
-/* A packet is made around its payload: HEAD bytes before it are free for the identifier and the length,
- * and some behind it for the delta. */
+/* A packet is made around its payload: HEAD bytes before it are free for the identifier and the
+ * length, and some behind it for the delta. */
 enum { HEAD = 8, MOST_PACKET = HEAD + 160 + 8 };
 
 static inline byte *put_two_before(byte *at, unsigned n) {
@@ -392,7 +399,8 @@ static inline void play(const struct step *s) {
     take_all();
 }
 
-/* The bytes of the file, at most one more than a workload may have; -1 where they cannot be read. */
+/* The bytes of the file, at most one more than a workload may have; -1 where they cannot be
+ * read. */
 static ssize_t read_all(const char *name, byte *text) {
     int file = open(name, O_RDONLY);
     size_t length = 0;
@@ -432,7 +440,8 @@ int main(int argc, char **argv) {
         return 11;
     }
     memcpy(sent, header, taken = sizeof header - 1);
-    for (const byte *at = steps; at < steps_end; at += step_size((const struct step *)at)) play((const struct step *)at);
+    for (const byte *at = steps; at < steps_end; at += step_size((const struct step *)at))
+        play((const struct step *)at);
     write_all();
     return starts > 0 ? 0 : fail(7, "no sync\n");
 }

@@ -1,286 +1,346 @@
-/* The commands `events F` and `check F` in plain C, with the same text and the same exit codes: what
- * they are measured against. It reads through one buffer of 128 KiB and writes through another.
+/* The commands `events F` and `check F` in plain C, with the same text and the same exit codes:
+ * what they are measured against. It is written for speed: it reads through one buffer by read(2),
+ * writes through another by write(2), and a packet is decoded without a look at the end of what is
+ * held, behind which zeros stand, so that what reads past it stops there.
  * Usage: baseline events F | check F */
+#define _POSIX_C_SOURCE 200809L
+#include <fcntl.h>
 #include <stdbool.h>
 #include <stdint.h>
-#include <stdio.h>
 #include <stdlib.h>
 #include <string.h>
+#include <unistd.h>
 
-enum { LONGEST = 65554, ROOM = 131072 };
-enum got { VALUE, SHORT, BAD };
+typedef unsigned char byte;
 
-static unsigned char held[ROOM];
-static size_t from, to;
-static char out[ROOM];
-static size_t filled;
+/* HELD is more than the longest packet, 65554 bytes. PAST is more than a packet without its text or
+ * payload. ROOM is more than a line without its text, payload and arguments. */
+enum { HELD = 131072, PAST = 64, OUT = 131072, ROOM = 256 };
 
-static void flush(void) {
-    if (fwrite(out, 1, filled, stdout) != filled) exit(4);
-    filled = 0;
-}
+static byte held[HELD + PAST];
+static const byte *end = held;
+static char out[OUT];
 
-static void put(const char *text, size_t length) {
-    if (ROOM - filled < length) flush();
-    memcpy(out + filled, text, length);
-    filled += length;
-}
+/* Where each byte of the output goes is passed along, so that it stays in a register. */
 
-static void put_char(char c) {
-    if (filled == ROOM) flush();
-    out[filled++] = c;
-}
-
-static void put_text(const char *text) { put(text, strlen(text)); }
-
-static void put_number(uint64_t n) {
-    char digits[20];
-    size_t at = sizeof digits;
-    do digits[--at] = (char)('0' + n % 10);
-    while (n /= 10);
-    put(digits + at, sizeof digits - at);
-}
-
-static void put_hex(unsigned b) {
-    static const char digits[] = "0123456789ABCDEF";
-    put_char(digits[b >> 4]);
-    put_char(digits[b & 15]);
-}
-
-static void put_quoted(const unsigned char *t, size_t length) {
-    put_char('"');
-    for (size_t i = 0; i < length; i++) {
-        if (t[i] == '"' || t[i] == '\\') put_char('\\');
-        if (t[i] >= 0x20 && t[i] <= 0x7e) put_char((char)t[i]);
-        else put_text("\\x"), put_hex(t[i]);
+static char *flush(char *at) {
+    for (const char *from = out; from < at;) {
+        ssize_t wrote = write(1, from, (size_t)(at - from));
+        if (wrote < 0) exit(4);
+        from += wrote;
     }
-    put_char('"');
+    return out;
 }
 
-/* A cursor over a slice, and why it stopped. */
-struct cursor {
-    const unsigned char *bytes;
-    size_t at, end;
-    int reason;
-};
+/* Makes room for ROOM bytes. */
+static inline char *reserve(char *at) { return out + OUT - at < ROOM ? flush(at) : at; }
 
-static enum got number(struct cursor *c, uint32_t *n) {
-    uint32_t value = 0;
-    for (int place = 0;; place++) {
-        if (c->at == c->end) return SHORT;
-        unsigned b = c->bytes[c->at];
-        if ((place > 0 && b == 0) || (place == 4 && b >= 16)) {
-            c->reason = 1;
-            return BAD;
+static char *put_text(char *at, const char *text) {
+    size_t length = strlen(text);
+    memcpy(at, text, length);
+    return at + length;
+}
+
+static const char pairs[] =
+    "00010203040506070809101112131415161718192021222324252627282930313233343536373839"
+    "40414243444546474849505152535455565758596061626364656667686970717273747576777879"
+    "8081828384858687888990919293949596979899";
+
+/* The digits are made from the last to the first; then 20 bytes go out, whatever is behind. */
+static char *put_long(char *at, uint64_t n) {
+    char digits[40];
+    char *first = digits + 20;
+    for (; n > UINT32_MAX; n /= 100) memcpy(first -= 2, pairs + 2 * (n % 100), 2);
+    uint32_t rest = (uint32_t)n;
+    for (; rest >= 10000; rest /= 10000) {
+        uint32_t four = rest % 10000;
+        memcpy(first -= 2, pairs + 2 * (four % 100), 2);
+        memcpy(first -= 2, pairs + 2 * (four / 100), 2);
+    }
+    if (rest >= 100) {
+        memcpy(first -= 2, pairs + 2 * (rest % 100), 2);
+        rest /= 100;
+    }
+    if (rest >= 10) memcpy(first -= 2, pairs + 2 * rest, 2);
+    else *--first = (char)('0' + rest);
+    memcpy(at, first, 20);
+    return at + (digits + 20 - first);
+}
+
+static inline char *put_number(char *at, uint32_t n) {
+    if (n < 10) {
+        *at = (char)('0' + n);
+        return at + 1;
+    }
+    if (n >= 100) return put_long(at, n);
+    memcpy(at, pairs + 2 * n, 2);
+    return at + 2;
+}
+
+static inline char *put_spaced(char *at, uint32_t n) {
+    *at = ' ';
+    return put_number(at + 1, n);
+}
+
+static inline char *put_hex(char *at, byte b) {
+    static const char digits[] = "0123456789ABCDEF";
+    at[0] = digits[b >> 4];
+    at[1] = digits[b & 15];
+    return at + 2;
+}
+
+static char *put_quoted(char *at, const byte *t, size_t length) {
+    *at++ = '"';
+    for (const byte *stop = t + length; t < stop; t++) {
+        at = reserve(at);
+        if (*t < 0x20 || *t > 0x7e) {
+            *at++ = '\\', *at++ = 'x';
+            at = put_hex(at, *t);
+        } else {
+            if (*t == '"' || *t == '\\') *at++ = '\\';
+            *at++ = (char)*t;
         }
-        c->at++;
-        value |= (uint32_t)(b & 0x7f) << (7 * place);
+    }
+    *at++ = '"';
+    return at;
+}
+
+/* Why a packet does not go on, and with which byte; where that is past the end, it is only cut. */
+static const byte *stopped;
+static int reason;
+
+static const byte *stop(const byte *at, int why) {
+    stopped = at;
+    reason = why;
+    return NULL;
+}
+
+static const byte *long_number(const byte *at, uint32_t *n) {
+    uint32_t value = *at & 0x7f;
+    for (int place = 1;; place++) {
+        uint32_t b = at[place];
+        if (b == 0 || (place == 4 && b >= 16)) return stop(at + place, 1);
+        value |= (b & 0x7f) << (7 * place);
         if (b < 0x80) {
             *n = value;
-            return VALUE;
+            return at + place + 1;
         }
     }
 }
 
-static enum got text(struct cursor *c, const unsigned char **t, size_t *length) {
-    if (c->at == c->end) return SHORT;
-    size_t n = c->bytes[c->at++];
+/* The readers give the place behind what they read, which may be past the end, or NULL. */
+
+static inline const byte *number(const byte *at, uint32_t *n) {
+    uint32_t low = at[0];
+    if (low < 0x80) {
+        *n = low;
+        return at + 1;
+    }
+    uint32_t high = at[1];
+    if (high - 1 >= 0x7f) return long_number(at, n);
+    *n = (low & 0x7f) | high << 7;
+    return at + 2;
+}
+
+/* An identifier or a length, in at most two bytes. */
+static inline const byte *two(const byte *at, int why, uint32_t *n) {
+    uint32_t low = at[0];
+    if (low < 0x80) {
+        *n = low;
+        return at + 1;
+    }
+    uint32_t high = at[1];
+    if (high - 1 >= 0x7f) return stop(at + 1, why);
+    *n = (low & 0x7f) | high << 7;
+    return at + 2;
+}
+
+static const byte *text(const byte *at, const byte *limit, const byte **t, size_t *length) {
+    if (at >= limit) return stop(limit, 0);
+    size_t n = *at++;
     if (n == 255) {
-        if (c->end - c->at < 2) {
-            c->at = c->end;
-            return SHORT;
-        }
-        n = c->bytes[c->at] | (size_t)c->bytes[c->at + 1] << 8;
-        if (n < 255) {
-            c->at++;
-            c->reason = 4;
-            return BAD;
-        }
-        c->at += 2;
+        n = at[0] | (size_t)at[1] << 8;
+        if (n < 255) return stop(at + 1, 4);
+        at += 2;
     }
-    if (c->end - c->at < n) return SHORT;
-    *t = c->bytes + c->at;
+    if (at > limit || (size_t)(limit - at) < n) return stop(limit, 0);
+    *t = at;
     *length = n;
-    c->at += n;
-    return VALUE;
+    return at + n;
 }
 
-static enum got two(struct cursor *c, int reason, uint32_t *n) {
-    if (c->at == c->end) return SHORT;
-    unsigned b = c->bytes[c->at++];
-    if (b < 0x80) {
-        *n = b;
-        return VALUE;
-    }
-    if (c->at == c->end) return SHORT;
-    unsigned high = c->bytes[c->at];
-    if (high == 0 || high >= 0x80) {
-        c->reason = reason;
-        return BAD;
-    }
-    c->at++;
-    *n = (b & 0x7f) | high << 7;
-    return VALUE;
-}
+enum { DATA_SAMPLE = 23, INIT, NAME_RESOURCE, PRINT_FORMATTED, KINDS = 30 };
+
+/* By identifier: the name, how many numbers are wanted at least and at most, and whether a text. */
+static const struct kind {
+    char name[16];
+    byte length, least, most, text;
+} kinds[KINDS] = {
+#define KIND(name, ...) {name, sizeof name - 1, __VA_ARGS__}
+    KIND("NOP", 0, 0, 0), KIND("OVERFLOW", 1, 1, 0), KIND("ISR_ENTER", 1, 1, 0),
+    KIND("ISR_EXIT", 0, 0, 0), KIND("TASK_START_EXEC", 1, 1, 0), KIND("TASK_STOP_EXEC", 0, 0, 0),
+    KIND("TASK_START_READY", 1, 1, 0), KIND("TASK_STOP_READY", 2, 2, 0),
+    KIND("TASK_CREATE", 1, 1, 0), KIND("TASK_INFO", 2, 2, 1), KIND("TRACE_START", 0, 0, 0),
+    KIND("TRACE_STOP", 0, 0, 0), KIND("SYSTIME_CYCLES", 1, 1, 0), KIND("SYSTIME_US", 2, 2, 0),
+    KIND("SYSDESC", 0, 0, 1), KIND("MARK_START", 1, 1, 0), KIND("MARK_STOP", 1, 1, 0),
+    KIND("IDLE", 0, 0, 0), KIND("ISR_TO_SCHEDULER", 0, 0, 0), KIND("TIMER_ENTER", 1, 1, 0),
+    KIND("TIMER_EXIT", 0, 0, 0), KIND("STACK_INFO", 4, 4, 0), KIND("MODULEDESC", 2, 2, 1),
+    KIND("", 0, 0, 0), KIND("INIT", 4, 4, 0), KIND("NAME_RESOURCE", 1, 1, 1),
+    KIND("PRINT_FORMATTED", 0, 0, 0), KIND("NUMMODULES", 1, 1, 0), KIND("END_CALL", 1, 2, 0),
+    KIND("TASK_TERMINATE", 1, 1, 0)};
 
 struct packet {
-    uint32_t id, numbers[4], count, delta;
-    const unsigned char *text, *payload;
+    uint32_t id, count, numbers[4], delta, arg_count;
+    bool opaque;
+    const byte *text, *payload, *args;
     size_t text_length, payload_length;
-    bool has_text, opaque;
-    const unsigned char *args;
-    uint32_t arg_count;
 };
 
-static const char *names[] = {
-    "NOP", "OVERFLOW", "ISR_ENTER", "ISR_EXIT", "TASK_START_EXEC", "TASK_STOP_EXEC", "TASK_START_READY",
-    "TASK_STOP_READY", "TASK_CREATE", "TASK_INFO", "TRACE_START", "TRACE_STOP", "SYSTIME_CYCLES", "SYSTIME_US",
-    "SYSDESC", "MARK_START", "MARK_STOP", "IDLE", "ISR_TO_SCHEDULER", "TIMER_ENTER", "TIMER_EXIT", "STACK_INFO",
-    "MODULEDESC", "", "INIT", "NAME_RESOURCE", "PRINT_FORMATTED", "NUMMODULES", "END_CALL", "TASK_TERMINATE"};
-static const unsigned char counts[] = {0, 1, 1, 0, 1, 0, 1, 2, 1, 2, 0, 0, 1, 2, 0, 1, 1, 0, 0, 1, 0, 4, 2};
-
 /* Whether the payload is exactly a known form of its identifier. */
-static bool form(struct packet *p, struct cursor c) {
-    p->count = 0;
-    p->has_text = false;
-    p->arg_count = 0;
-    if (p->id == 26) {
-        uint32_t options, count, arg;
-        if (text(&c, &p->text, &p->text_length) != VALUE || number(&c, &options) != VALUE || number(&c, &count) != VALUE)
-            return false;
-        p->args = c.bytes + c.at;
-        for (uint32_t i = 0; i < count; i++)
-            if (number(&c, &arg) != VALUE) return false;
-        p->numbers[0] = options;
-        p->arg_count = count;
-        return c.at == c.end;
+static bool form(struct packet *p, const byte *at, const byte *limit) {
+    const struct kind *kind = &kinds[p->id];
+    if (p->id == PRINT_FORMATTED) {
+        uint32_t arg;
+        if (!(at = text(at, limit, &p->text, &p->text_length))) return false;
+        if (!(at = number(at, &p->numbers[0])) || !(at = number(at, &p->arg_count))) return false;
+        p->args = at;
+        for (uint32_t i = 0; i < p->arg_count; i++)
+            if (at >= limit || !(at = number(at, &arg))) return false;
+        return at == limit;
     }
-    uint32_t most = p->id == 24 ? 4 : p->id == 28 ? 2 : 1, least = p->id == 28 ? 1 : most;
-    while (p->count < most && c.at < c.end)
-        if (number(&c, &p->numbers[p->count++]) != VALUE) return false;
-    if (p->count < least) return false;
-    if (p->id == 25) {
-        if (text(&c, &p->text, &p->text_length) != VALUE) return false;
-        p->has_text = true;
-    }
-    return c.at == c.end;
+    for (p->count = 0; p->count < kind->most && at < limit; p->count++)
+        if (!(at = number(at, &p->numbers[p->count]))) return false;
+    if (p->count < kind->least) return false;
+    if (kind->text && !(at = text(at, limit, &p->text, &p->text_length))) return false;
+    return at == limit;
 }
 
-static enum got packet(struct cursor *c, struct packet *p) {
-    enum got got;
-    if (c->at < c->end && c->bytes[c->at] == 23) {
-        c->reason = 2;
-        return BAD;
-    }
-    if ((got = two(c, 2, &p->id)) != VALUE) return got;
+static inline const byte *packet(const byte *at, struct packet *p) {
+    p->id = *at;
     p->opaque = false;
-    if (p->id >= 24) {
+    if (p->id < INIT) {
+        if (p->id == DATA_SAMPLE) return stop(at, 2);
+        const struct kind *kind = &kinds[p->id];
+        p->count = kind->most;
+        at++;
+        for (uint32_t i = 0; i < kind->most; i++)
+            if (!(at = number(at, &p->numbers[i]))) return NULL;
+        if (kind->text && !(at = text(at, end, &p->text, &p->text_length))) return NULL;
+    } else {
         uint32_t length;
-        if ((got = two(c, 3, &length)) != VALUE) return got;
-        if (c->end - c->at < length) return SHORT;
-        p->payload = c->bytes + c->at;
+        if (!(at = two(at, 2, &p->id)) || !(at = two(at, 3, &length))) return NULL;
+        if (at > end || (size_t)(end - at) < length) return stop(end, 0);
+        p->payload = at;
         p->payload_length = length;
-        p->opaque = p->id > 29 || !form(p, (struct cursor){p->payload, 0, length, 0});
-        c->at += length;
-    } else {
-        p->count = counts[p->id];
-        for (uint32_t i = 0; i < p->count; i++)
-            if ((got = number(c, &p->numbers[i])) != VALUE) return got;
-        p->has_text = p->id == 9 || p->id == 14 || p->id == 22;
-        if (p->has_text && (got = text(c, &p->text, &p->text_length)) != VALUE) return got;
+        p->opaque = p->id >= KINDS || !form(p, at, at + length);
+        at += length;
     }
-    return number(c, &p->delta);
+    return number(at, &p->delta);
 }
 
-static void put_spaced(uint64_t n) {
-    put_char(' ');
-    put_number(n);
+static char *put_opaque(char *at, const struct packet *p) {
+    at = put_text(at, "OPAQUE");
+    at = put_spaced(at, p->id);
+    *at++ = ' ';
+    for (size_t i = 0; i < p->payload_length; i++) at = put_hex(reserve(at), p->payload[i]);
+    if (p->payload_length == 0) *at++ = '-';
+    return at;
 }
 
-static void put_event(uint64_t time, const struct packet *p) {
-    put_number(time);
-    put_char(' ');
+static char *put_print(char *at, const struct packet *p) {
+    *at++ = ' ';
+    at = put_quoted(at, p->text, p->text_length);
+    at = put_spaced(reserve(at), p->numbers[0]);
+    at = put_spaced(at, p->arg_count);
+    const byte *from = p->args;
+    for (uint32_t i = 0, n = 0; i < p->arg_count; i++) {
+        from = number(from, &n);
+        at = put_spaced(reserve(at), n);
+    }
+    return at;
+}
+
+/* Of a name 16 bytes go out, whatever its length. */
+static inline char *put_event(char *at, uint64_t time, const struct packet *p) {
+    at = put_long(reserve(at), time);
+    *at++ = ' ';
     if (p->opaque) {
-        put_text("OPAQUE");
-        put_spaced(p->id);
-        put_char(' ');
-        for (size_t i = 0; i < p->payload_length; i++) put_hex(p->payload[i]);
-        if (p->payload_length == 0) put_char('-');
-    } else if (p->id == 26) {
-        put_text(names[26]);
-        put_char(' ');
-        put_quoted(p->text, p->text_length);
-        put_spaced(p->numbers[0]);
-        put_spaced(p->arg_count);
-        struct cursor c = {p->args, 0, SIZE_MAX, 0};
-        for (uint32_t i = 0, n; i < p->arg_count; i++) number(&c, &n), put_spaced(n);
+        at = put_opaque(at, p);
     } else {
-        put_text(names[p->id]);
-        for (uint32_t i = 0; i < p->count; i++) put_spaced(p->numbers[i]);
-        if (p->has_text) put_char(' '), put_quoted(p->text, p->text_length);
+        const struct kind *kind = &kinds[p->id];
+        memcpy(at, kind->name, sizeof kind->name);
+        at += kind->length;
+        if (p->id == PRINT_FORMATTED) {
+            at = put_print(at, p);
+        } else {
+            for (uint32_t i = 0; i < p->count; i++) at = put_spaced(at, p->numbers[i]);
+            if (kind->text) {
+                *at++ = ' ';
+                at = put_quoted(at, p->text, p->text_length);
+            }
+        }
     }
-    put_char('\n');
+    *at++ = '\n';
+    return at;
 }
 
 int main(int argc, char **argv) {
     if (argc != 3) return 2;
     bool events = strcmp(argv[1], "events") == 0;
-    FILE *file = fopen(argv[2], "rb");
-    if (!file) return 3;
+    int file = open(argv[2], O_RDONLY);
+    if (file < 0) return 3;
     uint64_t place = 0, time = 0, packets = 0;
     unsigned zeros = 0;
-    bool body = false, ended = false;
-    int code = -1, reason = 0;
+    bool body = false;
+    int code = -1;
+    char *at = out;
+    const byte *from = held;
     while (code < 0) {
-        memmove(held, held + from, to - from);
-        to -= from;
-        from = 0;
-        size_t came = fread(held + to, 1, ROOM - to, file);
-        if (ferror(file)) return 3;
-        ended = came == 0;
-        to += came;
-        while (!body && from < to) {
-            if (held[from] == 0) {
-                if (zeros < 10) zeros++;
-            } else if (zeros == 10) {
-                body = true;
-                break;
-            } else {
-                zeros = 0;
-            }
-            from++;
-            place++;
+        size_t kept = (size_t)(end - from);
+        place += (uint64_t)(from - held);
+        memmove(held, from, kept);
+        ssize_t came = read(file, held + kept, HELD - kept);
+        if (came < 0) {
+            flush(at);
+            return 3;
         }
-        while (body) {
-            struct cursor c = {held + from, 0, to - from, 0};
+        from = held;
+        end = held + kept + came;
+        memset(held + kept + came, 0, PAST);
+        for (; !body && from < end; from++) {
+            body = *from != 0 && zeros == 10;
+            if (body) break;
+            zeros = *from != 0 ? 0 : zeros < 10 ? zeros + 1 : 10;
+        }
+        while (from < end) {
             struct packet p;
-            enum got got = packet(&c, &p);
-            if (got == SHORT) break;
-            if (got == BAD) {
-                code = 5;
-                place += c.at;
-                reason = c.reason;
-                break;
-            }
-            from += c.at;
-            place += c.at;
+            const byte *next = packet(from, &p);
+            if (!next && stopped < end) code = 5;
+            if (!next || next > end) break;
+            from = next;
             time += p.delta;
             packets++;
-            if (events) put_event(time, &p);
+            if (events) at = put_event(at, time, &p);
         }
-        if (code < 0 && ended) code = !body ? (zeros == 10 ? 0 : 7) : from == to ? 0 : 6;
+        if (code < 0 && came == 0) code = !body ? (zeros == 10 ? 0 : 7) : from == end ? 0 : 6;
     }
+    at = reserve(at);
     if (!events) {
-        put_text("packets ");
-        put_number(packets);
-        put_text("\nticks ");
-        put_number(time);
-        put_char('\n');
+        at = put_long(put_text(at, "packets "), packets);
+        at = put_long(put_text(at, "\nticks "), time);
+        *at++ = '\n';
     }
-    if (code == 0) put_text("end clean\n");
-    if (code == 7) put_text("end no-sync\n");
-    if (code == 5) put_text("end damaged "), put_number(place), put_spaced((uint64_t)reason), put_char('\n');
-    if (code == 6) put_text("end truncated "), put_number(to - from), put_char('\n');
-    flush();
-    return fflush(stdout) ? 4 : code;
+    if (code == 0) at = put_text(at, "end clean\n");
+    if (code == 7) at = put_text(at, "end no-sync\n");
+    if (code == 5) {
+        at = put_long(put_text(at, "end damaged "), place + (uint64_t)(stopped - held));
+        at = put_spaced(at, (uint32_t)reason);
+        *at++ = '\n';
+    }
+    if (code == 6) {
+        at = put_long(put_text(at, "end truncated "), (uint64_t)(end - from));
+        *at++ = '\n';
+    }
+    flush(at);
+    return code;
 }

@@ -1,6 +1,6 @@
-/* Writes a recording of about the given number of bytes to standard output: what a small system sends
- * that is started once and then runs. Of 100 packets some 30 are task switches, 24 interrupts, 16 ready,
- * 12 markers, 12 calls and their ends, 4 idle, and 2 carry a text.
+/* Writes a recording of about the given number of bytes to standard output: what a small system
+ * sends that is started once and then runs. Of 100 packets some 30 are task switches, 24
+ * interrupts, 16 ready, 12 markers, 12 calls and their ends, 4 idle, and 2 carry a text.
  * Usage: generate BYTES */
 #include <stdint.h>
 #include <stdio.h>
@@ -43,12 +43,14 @@ static unsigned number_length(uint32_t n) {
 }
 
 static void start(void) {
-    static const char *names[] = {"Idle", "Main", "Sensor", "Control", "Network", "Logger", "Display", "Watchdog"};
+    static const char *names[] = {"Idle",    "Main",   "Sensor",  "Control",
+                                  "Network", "Logger", "Display", "Watchdog"};
     fputs("; recorded by generate\n", stdout);
     written += 23;
     for (int i = 0; i < 10; i++) byte(0);
     byte(10), number(0);
-    byte(24), byte(3 + 3 + 5 + 1), number(1000000), number(1000000), number(536870912), number(2), number(0);
+    byte(24), byte(3 + 3 + 5 + 1), number(1000000), number(1000000), number(536870912), number(2);
+    number(0);
     byte(14), text("N=Generated,D=Small system"), number(3);
     byte(12), number(40), number(1);
     for (uint32_t task = 1; task <= 8; task++) {
@@ -86,10 +88,12 @@ int main(int argc, char **argv) {
         } else if (kind < 88) {
             uint32_t a = draw(1 << 20), b = draw(64);
             unsigned id = 512 + draw(64);
-            byte((id & 0x7f) | 0x80), byte(id >> 7), byte(number_length(a) + number_length(b)), number(a), number(b);
+            byte((id & 0x7f) | 0x80), byte(id >> 7), byte(number_length(a) + number_length(b));
+            number(a), number(b);
         } else if (kind < 94) {
             uint32_t event = 512 + draw(64), value = draw(300);
-            byte(28), byte(number_length(event) + number_length(value)), number(event), number(value);
+            byte(28), byte(number_length(event) + number_length(value));
+            number(event), number(value);
         } else if (kind < 98) {
             byte(17);
         } else {

@@ -1,5 +1,5 @@
-/* Runs a command with its standard output thrown away, and prints the nanoseconds that it took and the
- * most memory that it had at once, in KiB. Usage: measure COMMAND WORD.. */
+/* Runs a command with its standard output thrown away, and prints the nanoseconds that it took and
+ * the most memory that it had at once, in KiB. Usage: measure COMMAND WORD.. */
 #define _GNU_SOURCE
 #include <fcntl.h>
 #include <stdio.h>
@@ -23,6 +23,7 @@ int main(int argc, char **argv) {
     }
     if (child < 0 || wait4(child, &status, 0, &used) != child) return 1;
     clock_gettime(CLOCK_MONOTONIC, &end);
-    printf("%lld %ld\n", (end.tv_sec - begin.tv_sec) * 1000000000LL + end.tv_nsec - begin.tv_nsec, used.ru_maxrss);
+    long long seconds = end.tv_sec - begin.tv_sec;
+    printf("%lld %ld\n", seconds * 1000000000 + end.tv_nsec - begin.tv_nsec, used.ru_maxrss);
     return WIFEXITED(status) ? WEXITSTATUS(status) : 1;
 }

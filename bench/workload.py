@@ -1,11 +1,15 @@
-"""Writes a workload of exactly so many bytes and steps to standard output: a small system that is started once
-and then runs. Of 100 steps some 26 are task switches by identifiers, 22 interrupts and their ends, 14 tasks that
-get ready or wait, 14 marks, 10 calls and their returns, 2 timers, and 12 carry a text. Remarks fill what is left.
-It draws from a fixed seed, so that the same words give the same bytes everywhere.
+"""Writes a workload of exactly so many bytes and steps to standard output: a small system that is
+started once and then runs. Of 100 steps some 26 are task switches by identifiers, 22 interrupts and
+their ends, 14 tasks that get ready or wait, 14 marks, 10 calls and their returns, 2 timers, and 12
+carry a text. Remarks fill what is left. It draws from a fixed seed, so that the same words give the
+same bytes everywhere.
 Usage: workload.py BYTES STEPS    at least 64 bytes for each step"""
 import sys
 
-PROSE = "the queue to the radio is full and the sample that waits behind it is dropped, so the next one goes first; "
+PROSE = (
+    "the queue to the radio is full and the sample that waits behind it is dropped, "
+    "so the next one goes first; "
+)
 TASKS = [536870912 + 1024 * k for k in range(1, 9)]
 
 
@@ -70,7 +74,8 @@ def main():
         out.append(line)
         written += len(line)
         # A line of a remark has two bytes at least, and is kept to a width.
-        while size * k // steps - written >= 2 and (k == steps or size * k // steps - written >= 64):
+        least = 2 if k == steps else 64
+        while size * k // steps - written >= least:
             length = min(100, size * k // steps - written)
             if size - written - length == 1:
                 length -= 1

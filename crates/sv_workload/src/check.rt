@@ -11,9 +11,7 @@ use crate::draft::Draft;
 use crate::fault::LineFault;
 use crate::keyword::Keyword;
 use crate::line_text::has_bad_text;
-use crate::range::has_bad_number;
 use crate::read_line::ReadLine;
-use crate::shape::is_misshapen;
 
 /// Whether a keyword stands for every word that is none.
 fn is_no_keyword(keyword: Keyword) -> bool
@@ -90,10 +88,10 @@ impl Draft {
         if self.is_misplaced(line) {
             return Some(LineFault::Misplaced);
         }
-        if is_misshapen(line) {
+        if line.is_misshapen() {
             return Some(LineFault::Shape);
         }
-        if has_bad_number(line) {
+        if line.has_bad_number() {
             return Some(LineFault::Number);
         }
         if has_bad_text(line) {

@@ -1,24 +1,11 @@
 //! The text of a line.
-ghost use Rattle.std.specs.Prelude.{◌≡◌, List, ◌&&◌, not, nat_le, drop, length, false};
-ghost use Rattle.std.specs.List.{list_all, join_with_byte};
+ghost use Rattle.std.specs.Prelude.{◌≡◌, List, ◌&&◌, not, nat_le, length, false};
+ghost use Rattle.std.specs.List.{list_all};
 ghost use Rattle.std.specs.Option.{option_map_or};
 ghost use Rattle.sv_workload.specs.Line.{Line};
 ghost use Rattle.sv_workload.specs.Checks.{is_printable, has_bad_text};
 
 use crate::read_line::ReadLine;
-use crate::words::Words;
-
-/// All that is after so many words, as one text.
-pub fn text_after<'a>(mut words: Words<'a>, count: usize) -> &'a [u8]
-    ensures { result.now ≡ join_with_byte 32 (drop count words.entry) }
-{
-    for _ in 0..count {
-        let Some(_) = words.next_word() else {
-            break;
-        };
-    }
-    words.text()
-}
 
 fn are_printable(text: &[u8]) -> bool
     ensures { result ≡ list_all is_printable text.now }

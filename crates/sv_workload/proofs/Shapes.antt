@@ -1,13 +1,12 @@
 -- Words that are taken off the front of a line, one by one.
-use Rattle.std.proofs.Common.{◌≡◌, ℕ, ◌<◌, zero, suc, ◌+◌, Bool, true, ◌&&◌, List, ◌∷◌, length}
-use Rattle.std.proofs.Common.{false, Option, Some, None, take, drop, nat_le, refl, sym, ap, ◌∙◌}
+use Rattle.std.proofs.Common.{◌≡◌, ℕ, ◌<◌, ◌+◌, Bool, ◌&&◌, List, length}
+use Rattle.std.proofs.Common.{false, Some, None, take, drop, nat_le, sym, ap, ◌∙◌}
 use Rattle.std.proofs.Common.{arith}
 use Rattle.std.proofs.lemmas.Bool.Decides.{leb_tells}
 use Rattle.std.proofs.lemmas.List.{take-append-drop, length-drop, drop_all}
 use Rattle.std.proofs.lemmas.List.Folds.{list_all-append}
 use Rattle.std.specs.List.{list_all, join_with_byte}
 use Rattle.sv_workload.specs.Forms.{Form}
-use Rattle.std.proofs.Math.Dec.{leb-suc-suc}
 use Rattle.sv_workload.specs.Checks.{is_word, fits}
 
 -- so many words are at the front, and none of them is empty

@@ -34,6 +34,7 @@ pub struct Fields<'a> {
 }
 
 /// The ticks that a word says, and whether so many may pass before a step. Without a word they are 0.
+#[inline(always)]
 fn ticks_of(word: Option<&[u8]>) -> (u64, bool)
     ensures ticks { result.0 ≡ min (unwrap_or
         (option_and_then number_of (option_map (λ word. word.now) word.entry)) 0) (2 ^ 64 - 1) }
@@ -50,6 +51,7 @@ fn ticks_of(word: Option<&[u8]>) -> (u64, bool)
 }
 
 /// Whether no word is left.
+#[inline(always)]
 fn is_over(mut words: Words<'_>) -> bool
     ensures { result ≡ (length words.entry == 0) }
 {
@@ -57,6 +59,7 @@ fn is_over(mut words: Words<'_>) -> bool
 }
 
 /// Whether a word was there for each of these numbers, and none was empty.
+#[inline(always)]
 fn are_whole(numbers: &Numbers, ranges: &[Range]) -> bool
     ensures { result ≡
         ((length numbers.now.values.items == length ranges.now) && numbers.now.filled) }
@@ -65,6 +68,7 @@ fn are_whole(numbers: &Numbers, ranges: &[Range]) -> bool
 }
 
 /// Whether the line ends as the form wants it: with this text, or with no word after the numbers.
+#[inline(always)]
 fn ends_well(form: &Form, text: &[u8], filled: bool, left: Words<'_>) -> bool
     ensures { result ≡ option_map_or (λ most. is_word text.now) form.now.text
         (filled && (length left.entry == 0)) }
@@ -76,6 +80,7 @@ fn ends_well(form: &Form, text: &[u8], filled: bool, left: Words<'_>) -> bool
 }
 
 /// Reads what stands around the keyword of a line, whose form this is.
+#[inline(always)]
 pub fn fields_of<'a>(line: &CutLine<'a>, form: &Form) -> Fields<'a>
     requires { form.now ≡ form_of line.now.keyword }
     ensures { AreFieldsOf line.now result }

@@ -7,6 +7,7 @@ ghost use Rattle.sv_workload.specs.Checks.{is_printable, has_bad_text};
 
 use crate::read_line::ReadLine;
 
+#[inline(always)]
 fn are_printable(text: &[u8]) -> bool
     ensures { result ≡ list_all is_printable text.now }
 {
@@ -14,6 +15,7 @@ fn are_printable(text: &[u8]) -> bool
 }
 
 /// Whether a text is too long, or not all of it can be printed.
+#[inline(always)]
 fn is_bad_text(text: &[u8], most: usize) -> bool
     ensures { result ≡ not (nat_le (length text.now) most && list_all is_printable text.now) }
 {
@@ -21,6 +23,7 @@ fn is_bad_text(text: &[u8], most: usize) -> bool
 }
 
 /// Whether the text of a line is too long, or not all of it can be printed.
+#[inline(always)]
 pub fn has_bad_text(line: &ReadLine<'_>) -> bool
     ensures { (before : List Line) → result ≡ has_bad_text before line.now }
 {

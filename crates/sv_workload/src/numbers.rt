@@ -22,6 +22,7 @@ pub struct Numbers {
 }
 
 /// The number that a word counts as, and whether it is one of the range.
+#[inline(always)]
 fn number_in(range: &Range, word: &[u8]) -> (u32, bool)
     ensures value { result.0 ≡ counts_as word.now }
     ensures within { result.1 ≡ is_within range.now word.now }
@@ -34,6 +35,7 @@ fn number_in(range: &Range, word: &[u8]) -> (u32, bool)
 
 impl Numbers {
     /// Takes one more word.
+    #[inline(always)]
     fn take(&mut self, range: &Range, word: &[u8])
         requires { length self.old.values.items < 9 }
         ensures values { self.new.values.items
@@ -48,6 +50,7 @@ impl Numbers {
     }
 
     /// Takes a word off the front for each range, as far as there are words.
+    #[inline(always)]
     pub fn take_all(&mut self, ranges: &[Range], words: &mut Words<'_>)
         requires { length self.old.values.items + length ranges.now ≤ 9 }
         ensures values { self.new.values.items ≡ self.old.values.items
@@ -67,6 +70,7 @@ impl Numbers {
     }
 
     /// Takes a word off the front for each range, as far as there are words, from no number on.
+    #[inline(always)]
     pub fn of(ranges: &[Range], words: &mut Words<'_>) -> Numbers
         requires { length ranges.now ≤ 9 }
         ensures values { result.values.items
@@ -86,6 +90,7 @@ impl Numbers {
 }
 
 /// The number at a place, or the default where there is none.
+#[inline(always)]
 pub fn number_or(numbers: &[u32], place: usize, default: u32) -> u32
     ensures { result ≡ slice_index_or numbers.now place default }
 {

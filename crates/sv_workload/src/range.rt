@@ -10,6 +10,7 @@ pub struct Range {
     pub most: Option<u32>,
 }
 
+#[inline(always)]
 fn is_at_most(n: u64, most: Option<u32>) -> bool
     ensures { (whole : ℕ) → n ≡ min whole (2 ^ 64 - 1)
         → result ≡ option_map_or (λ most. nat_le whole most) most true }
@@ -20,6 +21,7 @@ fn is_at_most(n: u64, most: Option<u32>) -> bool
     }
 }
 
+#[inline(always)]
 fn is_at_least(n: u64, least: u32) -> bool
     ensures { (whole : ℕ) → n ≡ min whole (2 ^ 64 - 1) → result ≡ nat_le least whole }
 {
@@ -27,6 +29,7 @@ fn is_at_least(n: u64, least: u32) -> bool
 }
 
 /// Whether a number is in the range. `u64::MAX` stands for every number from there on.
+#[inline(always)]
 pub fn is_in(range: &Range, n: u64) -> bool
     ensures { (whole : ℕ) → n ≡ min whole (2 ^ 64 - 1) → result ≡ is_in range.now whole }
 {

@@ -37,6 +37,7 @@ impl<'a> Model for ReadLine<'a> {
 
 impl<'a> ReadLine<'a> {
     /// Reads a line that is no remark.
+    #[inline(always)]
     pub fn of(bytes: &'a [u8]) -> ReadLine<'a>
         ensures { result ≡ line_of bytes.now }
     {
@@ -46,6 +47,7 @@ impl<'a> ReadLine<'a> {
         ReadLine { cut, form, fields }
     }
 
+    #[inline(always)]
     pub fn keyword(&self) -> Keyword
         ensures { result ≡ self.now.keyword }
     {
@@ -54,6 +56,7 @@ impl<'a> ReadLine<'a> {
 
     /// The ticks that pass before a step. More than the greatest `u64` count as that many, and a
     /// line without a number for them has 0.
+    #[inline(always)]
     pub fn ticks(&self) -> u64
         ensures { result ≡
             min (unwrap_or (option_and_then number_of self.now.advance) 0) (2 ^ 64 - 1) }
@@ -62,6 +65,7 @@ impl<'a> ReadLine<'a> {
     }
 
     /// The numbers after the keyword. One above the greatest `u32` counts as that one.
+    #[inline(always)]
     pub fn numbers(&self) -> &[u32]
         ensures { result.now ≡ map capped (numbers_of self.now) }
     {
@@ -70,6 +74,7 @@ impl<'a> ReadLine<'a> {
 
     /// The first number. One above the greatest `u32` counts as that one, and a line without
     /// numbers has 0.
+    #[inline(always)]
     pub fn first_number(&self) -> u32
         ensures { result ≡ capped (number self.now 0) }
     {
@@ -77,6 +82,7 @@ impl<'a> ReadLine<'a> {
     }
 
     /// Whether the first number is an identifier of the target.
+    #[inline(always)]
     pub fn has_identifier(&self) -> bool
         ensures { result ≡ (form_of self.now.keyword).identifier }
     {
@@ -84,6 +90,7 @@ impl<'a> ReadLine<'a> {
     }
 
     /// How many bytes the text has at most, if there is one.
+    #[inline(always)]
     pub fn most_text(&self) -> Option<usize>
         ensures { result ≡ (form_of self.now.keyword).text }
     {
@@ -91,6 +98,7 @@ impl<'a> ReadLine<'a> {
     }
 
     /// The text after the numbers, with all its spaces.
+    #[inline(always)]
     pub fn text(&self) -> &'a [u8]
         ensures { result.now ≡ text_of self.now }
     {
@@ -98,6 +106,7 @@ impl<'a> ReadLine<'a> {
     }
 
     /// Whether a word is missing, empty or too many. The line is none of a command.
+    #[inline(always)]
     pub fn is_misshapen(&self) -> bool
         requires { says (Keyword.Setup SetupWord.Command) self.now ≡ false }
         ensures { (before : List Line) → result ≡ is_misshapen before self.now }
@@ -106,6 +115,7 @@ impl<'a> ReadLine<'a> {
     }
 
     /// Whether the ticks or a word for a number are no number, or one out of its range.
+    #[inline(always)]
     pub fn has_bad_number(&self) -> bool
         ensures { (before : List Line) → result ≡ has_bad_number before self.now }
     {

@@ -4,9 +4,9 @@ pub mod Capping
 pub mod Digits
 pub mod Keywords
 pub mod Faulted
+pub mod Fielded
 pub mod FirstFault
 pub mod FirstLine
-pub mod Numerals
 pub mod Ranges
 pub mod Ranged
 pub mod Scripted
@@ -19,6 +19,7 @@ pub mod FitSteps
 pub mod StepActs
 pub mod OneMore
 pub mod Passed
+pub mod Passing
 pub mod Growing
 pub mod Rooms
 pub mod Walking

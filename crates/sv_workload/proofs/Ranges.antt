@@ -1,8 +1,7 @@
 -- Words for numbers, each against its range.
-use Rattle.std.proofs.Common.{◌≡◌, ℕ, ◌<◌, ◌+◌, Bool, true, ◌&&◌, List, [], ◌∷◌, ◌++◌, length, drop}
-use Rattle.std.proofs.Common.{get_or, refl, sym, ap, ◌∙◌}
+use Rattle.std.proofs.Common.{◌≡◌, ℕ, Bool, true, ◌&&◌, List, [], ◌∷◌, ◌++◌, length, drop}
+use Rattle.std.proofs.Common.{refl, sym, ap, ◌∙◌}
 use Rattle.std.proofs.Math.Bool.{and_assoc}
-use Rattle.std.proofs.lemmas.List.{at_drop_more}
 use Rattle.sv_workload.specs.declared.range.Range.{Range}
 use Rattle.sv_workload.specs.Checks.{is_within, are_within}
 
@@ -21,12 +20,3 @@ within_both (range ∷ first) second (word ∷ words) =
     ap (λ (t : Bool). is_within range word && t) (within_both first second words) ∙ sym
     (and_assoc (is_within range word) (are_within first words)
     (are_within second (drop (length first) words)))
-
--- the range at a place, for a first word
-pub within_more : (ranges : List Range) (place : ℕ) (d : Range) (word : List ℕ)
-    (words : List (List ℕ))
-    → place < length ranges
-    → are_within (drop place ranges) (word ∷ words) ≡
-    (is_within (get_or ranges place d) word && are_within (drop (place + 1) ranges) words)
-within_more ranges place d word words within =
-    at_drop_more (λ (l : List Range). are_within l (word ∷ words)) ranges place d within

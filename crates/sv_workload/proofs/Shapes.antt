@@ -1,13 +1,12 @@
 -- Words that are taken off the front of a line, one by one.
-use Rattle.std.proofs.Common.{◌≡◌, ℕ, ◌<◌, zero, suc, ◌+◌, Bool, true, ◌&&◌, List, ◌∷◌, length}
-use Rattle.std.proofs.Common.{false, Option, Some, None, take, drop, nat_le, refl, sym, ap, ◌∙◌}
+use Rattle.std.proofs.Common.{◌≡◌, ℕ, ◌<◌, ◌+◌, Bool, ◌&&◌, List, length}
+use Rattle.std.proofs.Common.{false, Some, None, take, drop, nat_le, sym, ap, ◌∙◌}
 use Rattle.std.proofs.Common.{arith}
 use Rattle.std.proofs.lemmas.Bool.Decides.{leb_tells}
 use Rattle.std.proofs.lemmas.List.{take-append-drop, length-drop, drop_all}
 use Rattle.std.proofs.lemmas.List.Folds.{list_all-append}
 use Rattle.std.specs.List.{list_all, join_with_byte}
 use Rattle.sv_workload.specs.Forms.{Form}
-use Rattle.std.proofs.Math.Dec.{leb-suc-suc}
 use Rattle.sv_workload.specs.Checks.{is_word, fits}
 
 -- so many words are at the front, and none of them is empty
@@ -17,25 +16,6 @@ begins_filled count words = nat_le count (length words) && list_all is_word (tak
 -- no more words than these are there, and none is empty
 abbrev pub is_few_filled : ℕ → List (List ℕ) → Bool
 is_few_filled most words = nat_le (length words) most && list_all is_word words
-
--- one more word at the front
-pub filled_more : (k n : ℕ) (word : List ℕ) (words : List (List ℕ)) → k ≡ n + 1
-    → is_word word ≡ true → begins_filled k (word ∷ words) ≡ begins_filled n words
-filled_more zero n word words e filled = absurd (omega (arith, e))
-filled_more (suc k) n word words e filled =
-    let same : k ≡ n = omega (arith, e) in
-    ap (λ (t : Bool). t && list_all is_word (take (suc k) (word ∷ words)))
-    (leb-suc-suc k (length words))
-    ∙ ap (λ (t : Bool). nat_le k (length words) && (t && list_all is_word (take k words))) filled
-    ∙ ap (λ (m : ℕ). begins_filled m words) same
-
--- what is after one more word
-pub drop_more : (k n : ℕ) (word : List ℕ) (words : List (List ℕ)) → k ≡ n + 1
-    → drop k (word ∷ words) ≡ drop n words
-drop_more zero n word words e = absurd (omega (arith, e))
-drop_more (suc k) n word words e =
-    let same : k ≡ n = omega (arith, e) in
-    ap (λ (m : ℕ). drop m words) same
 
 -- the words that are wanted and those that may follow, looked at one after another
 pub filled_then_few : (n m : ℕ) (words : List (List ℕ))
@@ -81,20 +61,3 @@ pub fits_words : (form : Form) (words : List (List ℕ)) → form.text ≡ None
     (begins_filled (length form.numbers) words && is_few_filled (length form.more)
     (drop (length form.numbers) words))
 fits_words form words e = rw e (filled_then_few (length form.numbers) (length form.more) words)
-
--- with a word that is missing or empty no form is met
-fits_not : (form : Form) (text : Option ℕ) (words : List (List ℕ)) → form.text ≡ text
-    → begins_filled (length form.numbers) words ≡ false
-    → fits form words (join_with_byte 32 (drop (length form.numbers) words)) ≡ false
-fits_not form (Some most) words e bad =
-    fits_text form most words e ∙ ap
-    (λ (t : Bool). t && is_word (join_with_byte 32 (drop (length form.numbers) words))) bad
-fits_not form None words e bad =
-    fits_words form words e ∙ ap
-    (λ (t : Bool). t && is_few_filled (length form.more) (drop (length form.numbers) words)) bad
-
--- the same for any form
-pub is_no_fit : (form : Form) (words : List (List ℕ))
-    → begins_filled (length form.numbers) words ≡ false
-    → fits form words (join_with_byte 32 (drop (length form.numbers) words)) ≡ false
-is_no_fit form words bad = fits_not form form.text words refl bad

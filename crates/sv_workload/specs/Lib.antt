@@ -10,6 +10,7 @@ pub mod Load
 pub mod Meaning
 pub mod Need
 pub mod Numbers
+pub mod Fields
 pub mod Reason
 pub mod Words
 pub mod Settings

@@ -15,6 +15,7 @@ use sv_packet::Event;
 use sv_prim::{Buf, Bytes, NoMemory, Numbers, put_u32, shrink};
 
 /// The first number as the target sends it: an identifier is shrunk.
+#[inline(always)]
 fn sent(word: ActWord, first: u32, base: u32, shift: u32) -> u32
     requires { shift ≤ 31 }
     ensures { (rest : List ℕ) → result ∷ rest
@@ -73,6 +74,7 @@ fn call(alloc: Global, event: u32, numbers: &[u32]) -> Result<Act, NoMemory>
 }
 
 /// What a step does by its first number and the rest of them.
+#[inline(always)]
 fn act_by(
     alloc: Global,
     word: ActWord,
@@ -117,6 +119,7 @@ fn act_by(
 
 /// What a step does by its keyword, its numbers and its text. Memory is taken once where a text or
 /// the numbers of a call are kept, and else not.
+#[inline(always)]
 pub fn act(
     alloc: Global,
     word: ActWord,

@@ -50,6 +50,7 @@ impl Draft {
     }
 
     /// One more step for the writer that was named last.
+    #[inline(always)]
     fn add_step(&mut self, step: Step) -> Result<(), NoMemory>
         requires writer { 0 < length self.old.scripts }
         requires steps { over_scripts (λ s. 1) self.old.scripts < most_steps }
@@ -108,6 +109,7 @@ impl Draft {
     }
 
     /// Adds a step to the writer that was named last.
+    #[inline(always)]
     fn add_act(&mut self, alloc: Global, line: &ReadLine<'_>, word: ActWord) -> Result<(), NoMemory>
         requires keyword { line.now.keyword ≡ Act word }
         requires good { IsGoodBehind self.old line.now }
@@ -120,6 +122,7 @@ impl Draft {
     }
 
     /// Adds what a line without a fault says. Memory is taken for what is kept of it alone.
+    #[inline(always)]
     pub fn add(&mut self, alloc: Global, line: &ReadLine<'_>) -> Result<(), NoMemory>
         requires known { is_later line.now.keyword ≡ false }
         requires good { IsGoodBehind self.old line.now }

@@ -11,11 +11,10 @@ use crate::draft::Draft;
 use crate::fault::LineFault;
 use crate::keyword::Keyword;
 use crate::line_text::has_bad_text;
-use crate::range::has_bad_number;
 use crate::read_line::ReadLine;
-use crate::shape::is_misshapen;
 
 /// Whether a keyword stands for every word that is none.
+#[inline(always)]
 fn is_no_keyword(keyword: Keyword) -> bool
     ensures { result ≡ is_no_keyword keyword }
 {
@@ -26,6 +25,7 @@ fn is_no_keyword(keyword: Keyword) -> bool
 }
 
 /// Whether no keyword stands where it should.
+#[inline(always)]
 fn is_unknown(line: &ReadLine<'_>) -> bool
     ensures { (lines : List Line) → result ≡ is_unknown lines line.now }
 {
@@ -34,6 +34,7 @@ fn is_unknown(line: &ReadLine<'_>) -> bool
 
 impl Draft {
     /// Whether a line stands in another part of the text than its own.
+    #[inline(always)]
     pub fn is_misplaced(&self, line: &ReadLine<'_>) -> bool
         ensures { (lines : List Line) → Stands self.now lines
             → result ≡ is_misplaced lines line.now }
@@ -42,6 +43,7 @@ impl Draft {
     }
 
     /// Whether a line's like stands before it as often as it may.
+    #[inline(always)]
     pub fn is_too_many(&self, line: &ReadLine<'_>) -> bool
         ensures { (lines : List Line) → Stands self.now lines
             → result ≡ is_too_many lines line.now }
@@ -51,6 +53,7 @@ impl Draft {
 
     /// Whether a line's identifier has low bits that the target would not send. Its numbers are of
     /// their ranges.
+    #[inline(always)]
     pub fn is_unaligned(&self, line: &ReadLine<'_>) -> bool
         requires { has_bad_number [] line.now ≡ false }
         ensures { (lines : List Line) → Stands self.now lines
@@ -61,6 +64,7 @@ impl Draft {
 
     /// Whether a line's setting was told before, or a task with its identifier was. Its numbers are
     /// of their ranges.
+    #[inline(always)]
     pub fn is_repeated(&self, line: &ReadLine<'_>) -> bool
         requires { has_bad_number [] line.now ≡ false }
         ensures { (lines : List Line) → Stands self.now lines
@@ -70,6 +74,7 @@ impl Draft {
     }
 
     /// Whether a line's turn goes to a writer that there isn't.
+    #[inline(always)]
     pub fn has_no_writer(&self, line: &ReadLine<'_>) -> bool
         ensures { (lines : List Line) → Stands self.now lines
             → result ≡ has_no_writer lines line.now }
@@ -78,6 +83,7 @@ impl Draft {
     }
 
     /// What is wrong with where a line stands, or with its words.
+    #[inline(always)]
     fn form_fault(&self, line: &ReadLine<'_>) -> Option<LineFault>
         requires { is_later line.now.keyword ≡ false }
         ensures first { (lines : List Line) → Stands self.now lines
@@ -90,10 +96,10 @@ impl Draft {
         if self.is_misplaced(line) {
             return Some(LineFault::Misplaced);
         }
-        if is_misshapen(line) {
+        if line.is_misshapen() {
             return Some(LineFault::Shape);
         }
-        if has_bad_number(line) {
+        if line.has_bad_number() {
             return Some(LineFault::Number);
         }
         if has_bad_text(line) {
@@ -103,6 +109,7 @@ impl Draft {
     }
 
     /// What is wrong with what a line says after the lines before it.
+    #[inline(always)]
     fn later_fault(&self, line: &ReadLine<'_>) -> Option<LineFault>
         requires known { is_later line.now.keyword ≡ false }
         requires good { has_bad_number [] line.now ≡ false }
@@ -125,6 +132,7 @@ impl Draft {
     }
 
     /// What is wrong with a line after the lines of the draft, if anything is.
+    #[inline(always)]
     pub fn fault(&self, line: &ReadLine<'_>) -> Option<LineFault>
         requires { is_later line.now.keyword ≡ false }
         ensures { (lines : List Line) → Stands self.now lines → result ≡ fault_of lines line.now }

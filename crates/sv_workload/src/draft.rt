@@ -98,6 +98,7 @@ fn sets_identifiers(word: SetupWord) -> bool
 }
 
 /// Whether a keyword may follow, with or without a writer, a task and the schedule before it.
+#[inline(always)]
 fn may_stand(writer: bool, task: bool, schedule: bool, keyword: Keyword) -> bool
     ensures { result ≡ may_stand writer task schedule keyword }
 {
@@ -111,6 +112,7 @@ fn may_stand(writer: bool, task: bool, schedule: bool, keyword: Keyword) -> bool
 }
 
 /// Whether the keyword's setting was told.
+#[inline(always)]
 fn is_told(settings: &Settings, keyword: Keyword) -> bool
     ensures { result ≡ is_told settings.now keyword }
 {
@@ -133,6 +135,7 @@ impl Draft {
     ghost use Rattle.sv_workload.specs.Checking.{repeats, lacks_writer};
 
     /// Whether the keyword may stand after the lines of the draft.
+    #[inline(always)]
     pub fn has_place(&self, keyword: Keyword) -> bool
         ensures { result ≡ has_place self.now keyword }
     {
@@ -145,6 +148,7 @@ impl Draft {
     }
 
     /// Whether no further step is within the limits.
+    #[inline(always)]
     pub fn has_all_steps(&self) -> bool
         ensures { result ≡ has_all_steps self.now }
     {
@@ -152,6 +156,7 @@ impl Draft {
     }
 
     /// Whether a further line with this keyword is beyond the limits.
+    #[inline(always)]
     pub fn has_all(&self, keyword: Keyword) -> bool
         ensures { result ≡ has_all self.now keyword }
     {
@@ -174,6 +179,7 @@ impl Draft {
     }
 
     /// Whether a keyword's setting, or a task's identifier, was told.
+    #[inline(always)]
     pub fn repeats(&self, keyword: Keyword, id: u32) -> bool
         ensures { result ≡ repeats self.now keyword id }
     {
@@ -184,6 +190,7 @@ impl Draft {
     }
 
     /// Whether nothing of an identifier is lost as it is shrunk.
+    #[inline(always)]
     pub fn is_aligned(&self, id: u32) -> bool
         ensures { result ≡
             is_aligned id (base_told self.now.settings) (shift_told self.now.settings) }
@@ -192,6 +199,7 @@ impl Draft {
     }
 
     /// Whether something is lost of an identifier, if the number is one.
+    #[inline(always)]
     pub fn loses_bits(&self, identifier: bool, id: u32) -> bool
         ensures { result ≡ (identifier
             && not (is_aligned id (base_told self.now.settings) (shift_told self.now.settings))) }
@@ -200,6 +208,7 @@ impl Draft {
     }
 
     /// Whether a turn goes to a writer that there isn't.
+    #[inline(always)]
     pub fn lacks_writer(&self, keyword: Keyword, writer: u32) -> bool
         ensures told { result ≡ lacks_writer self.now keyword writer }
         ensures few { length self.now.scripts ≤ 16 }
@@ -221,6 +230,7 @@ impl Draft {
     ghost use Rattle.sv_workload.specs.Grammar.{said, fault_at};
 
     /// Takes a line that says something, or tells what is wrong with it.
+    #[inline(always)]
     fn take_said(&mut self, alloc: Global, bytes: &[u8]) -> Result<Option<LineFault>, NoMemory>
         requires { (lines : List Line) × Stands self.old lines }
         ensures fault { (lines : List Line) (fault : LineFault) → Stands self.old lines
@@ -238,6 +248,7 @@ impl Draft {
     }
 
     /// Takes one more line of a text, or tells what is wrong with it after the lines before it.
+    #[inline(always)]
     pub fn take(&mut self, alloc: Global, line: &[u8]) -> Result<Option<LineFault>, NoMemory>
         requires { (before : List (List ℕ)) × Stands self.old (said before) }
         ensures fault { (before : List (List ℕ)) (fault : LineFault) → Stands self.old (said before)

@@ -39,6 +39,7 @@ const ANY: Range = Range {
     most: None,
 };
 
+#[inline(always)]
 fn bare() -> Form
     ensures { result ≡ bare }
 {
@@ -50,6 +51,7 @@ fn bare() -> Form
     }
 }
 
+#[inline(always)]
 fn numbers(ranges: &'static [Range]) -> Form
     ensures { result ≡ numbers ranges.now }
 {
@@ -109,6 +111,7 @@ fn setup_form(word: SetupWord) -> Form
 }
 
 /// What stands after the word of a step.
+#[inline(always)]
 fn act_form(word: ActWord) -> Form
     ensures { result ≡ form_of (Keyword.Act word) }
 {
@@ -176,6 +179,7 @@ fn turn_form(word: TurnWord) -> Form
 }
 
 /// What stands after a keyword.
+#[inline(always)]
 pub fn form_of(keyword: Keyword) -> Form
     ensures { result ≡ form_of keyword }
 {

@@ -1,5 +1,5 @@
 //! Keywords, and which words spell them.
-ghost use Rattle.std.specs.Prelude.{◌≡◌};
+ghost use Rattle.std.specs.Prelude.{◌≡◌, ◌∷◌, [], bytes_eq};
 ghost use Rattle.sv_workload.specs.Keywords.{spelling, keyword_among, of_length, step_keywords};
 ghost use Rattle.sv_workload.specs.Keywords.{other_keywords};
 
@@ -63,43 +63,6 @@ pub enum Keyword {
     Unknown,
 }
 
-/// The keywords after the ticks of a step that have so many letters.
-fn step_keywords(len: usize) -> &'static [Keyword]
-    ensures { result.now ≡ of_length len step_keywords }
-{
-    match len {
-        3 => &[
-            Keyword::Act(ActWord::Nop),
-            Keyword::Act(ActWord::Isr),
-            Keyword::Act(ActWord::Run),
-        ],
-        4 => &[
-            Keyword::Act(ActWord::Stop),
-            Keyword::Act(ActWord::Halt),
-            Keyword::Act(ActWord::Mark),
-            Keyword::Act(ActWord::Idle),
-            Keyword::Act(ActWord::Name),
-            Keyword::Act(ActWord::Call),
-        ],
-        5 => &[
-            Keyword::Act(ActWord::Start),
-            Keyword::Act(ActWord::Ready),
-            Keyword::Act(ActWord::Sched),
-            Keyword::Act(ActWord::Timer),
-            Keyword::Act(ActWord::Print),
-        ],
-        6 => &[Keyword::Act(ActWord::Create), Keyword::Act(ActWord::Return)],
-        7 => &[Keyword::Act(ActWord::Unready)],
-        8 => &[
-            Keyword::Act(ActWord::IsrExit),
-            Keyword::Act(ActWord::MarkEnd),
-        ],
-        9 => &[Keyword::Act(ActWord::Terminate)],
-        10 => &[Keyword::Act(ActWord::TimerExit)],
-        _ => &[],
-    }
-}
-
 /// The keywords of every other line that have so many letters.
 fn other_keywords(len: usize) -> &'static [Keyword]
     ensures { result.now ≡ of_length len other_keywords }
@@ -124,6 +87,7 @@ fn other_keywords(len: usize) -> &'static [Keyword]
 }
 
 /// How a keyword is spelled.
+#[inline(always)]
 fn spelling(keyword: Keyword) -> &'static [u8]
     ensures { result.now ≡ spelling keyword }
 {
@@ -173,18 +137,127 @@ fn keyword_among(keywords: &[Keyword], word: &[u8]) -> Keyword
     ensures { result ≡ keyword_among keywords.now word.now }
 {
     for keyword in keywords {
-        if spelling(*keyword) == word {
+        if is_spelled(*keyword, word) {
             return *keyword;
         }
     }
     Keyword::Unknown
 }
 
+/// Whether a word spells a keyword.
+#[inline(always)]
+fn is_spelled(keyword: Keyword, word: &[u8]) -> bool
+    ensures { result ≡ bytes_eq (spelling keyword) word.now }
+{
+    spelling(keyword) == word
+}
+
+/// The keyword of a step that a word of three letters spells.
+#[inline(always)]
+fn three_letters(word: &[u8]) -> Keyword
+    ensures { result ≡ keyword_among (of_length 3 step_keywords) word.now }
+{
+    if is_spelled(Keyword::Act(ActWord::Nop), word) {
+        Keyword::Act(ActWord::Nop)
+    } else if is_spelled(Keyword::Act(ActWord::Isr), word) {
+        Keyword::Act(ActWord::Isr)
+    } else if is_spelled(Keyword::Act(ActWord::Run), word) {
+        Keyword::Act(ActWord::Run)
+    } else {
+        Keyword::Unknown
+    }
+}
+
+/// The keyword of a step that a word of four letters spells.
+#[inline(always)]
+fn four_letters(word: &[u8]) -> Keyword
+    ensures { result ≡ keyword_among (of_length 4 step_keywords) word.now }
+{
+    if is_spelled(Keyword::Act(ActWord::Stop), word) {
+        Keyword::Act(ActWord::Stop)
+    } else if is_spelled(Keyword::Act(ActWord::Halt), word) {
+        Keyword::Act(ActWord::Halt)
+    } else if is_spelled(Keyword::Act(ActWord::Mark), word) {
+        Keyword::Act(ActWord::Mark)
+    } else if is_spelled(Keyword::Act(ActWord::Idle), word) {
+        Keyword::Act(ActWord::Idle)
+    } else if is_spelled(Keyword::Act(ActWord::Name), word) {
+        Keyword::Act(ActWord::Name)
+    } else if is_spelled(Keyword::Act(ActWord::Call), word) {
+        Keyword::Act(ActWord::Call)
+    } else {
+        Keyword::Unknown
+    }
+}
+
+/// The keyword of a step that a word of five letters spells.
+#[inline(always)]
+fn five_letters(word: &[u8]) -> Keyword
+    ensures { result ≡ keyword_among (of_length 5 step_keywords) word.now }
+{
+    if is_spelled(Keyword::Act(ActWord::Start), word) {
+        Keyword::Act(ActWord::Start)
+    } else if is_spelled(Keyword::Act(ActWord::Ready), word) {
+        Keyword::Act(ActWord::Ready)
+    } else if is_spelled(Keyword::Act(ActWord::Sched), word) {
+        Keyword::Act(ActWord::Sched)
+    } else if is_spelled(Keyword::Act(ActWord::Timer), word) {
+        Keyword::Act(ActWord::Timer)
+    } else if is_spelled(Keyword::Act(ActWord::Print), word) {
+        Keyword::Act(ActWord::Print)
+    } else {
+        Keyword::Unknown
+    }
+}
+
+/// The one of two keywords of a step that a word spells.
+#[inline(always)]
+fn one_of(first: ActWord, second: ActWord, word: &[u8]) -> Keyword
+    ensures { result ≡ keyword_among (Keyword.Act first ∷ Keyword.Act second ∷ []) word.now }
+{
+    if is_spelled(Keyword::Act(first), word) {
+        Keyword::Act(first)
+    } else {
+        this(second, word)
+    }
+}
+
+/// The keyword of a step, if a word spells it.
+#[inline(always)]
+fn this(act: ActWord, word: &[u8]) -> Keyword
+    ensures { result ≡ keyword_among (Keyword.Act act ∷ []) word.now }
+{
+    if is_spelled(Keyword::Act(act), word) {
+        Keyword::Act(act)
+    } else {
+        Keyword::Unknown
+    }
+}
+
+/// The keyword of a step that a word spells, among those that have so many letters.
+#[inline(always)]
+fn keyword_of(letters: usize, word: &[u8]) -> Keyword
+    ensures { result ≡ keyword_among (of_length letters step_keywords) word.now }
+{
+    match letters {
+        3 => three_letters(word),
+        4 => four_letters(word),
+        5 => five_letters(word),
+        6 => one_of(ActWord::Create, ActWord::Return, word),
+        7 => this(ActWord::Unready, word),
+        8 => one_of(ActWord::IsrExit, ActWord::MarkEnd, word),
+        9 => this(ActWord::Terminate, word),
+        10 => this(ActWord::TimerExit, word),
+        _ => Keyword::Unknown,
+    }
+}
+
 /// The keyword that a step line has, by its second word.
+#[inline(always)]
 pub fn step_keyword(word: &[u8]) -> Keyword
     ensures { result ≡ keyword_among step_keywords word.now }
 {
-    keyword_among(step_keywords(word.len()), word)
+    keyword_of(word.len(), word)
 }
 
 /// The keyword that any other line has, by its first word.

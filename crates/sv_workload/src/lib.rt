@@ -1,10 +1,10 @@
 //! Workloads: what the writers of a run do, and in which order.
 //!
 //! `parse` reads a `text` by its `lines`. A line is cut at its spaces (`cut_line`), and its
-//! `keyword` says which `form` it has: that is a `read_line`. Its own words come first: how many
-//! there are (`shape`), the numbers among them (`range`) and its text (`line_text`). Then it is
-//! checked against the `draft` of the lines before it (`check`). A line without a fault makes a
-//! step, a task or a turn (`parts`), which the draft takes up (`add`).
+//! `keyword` says which `form` it has, by which its `fields` are read in one pass: that is a
+//! `read_line`. It is checked for itself, and then against the `draft` of the lines before it
+//! (`check`). A line without a fault makes a step, a task or a turn (`parts`), which the draft
+//! takes up (`add`).
 #![tactic(auto)]
 
 mod acts;
@@ -13,6 +13,7 @@ mod check;
 mod cut_line;
 mod draft;
 mod fault;
+mod fields;
 mod form;
 mod keyword;
 mod laws;
@@ -27,7 +28,6 @@ mod range;
 mod read_line;
 mod scripts;
 mod settings;
-mod shape;
 mod text;
 mod words;
 

@@ -1,25 +1,13 @@
 //! The text of a line.
-ghost use Rattle.std.specs.Prelude.{◌≡◌, List, ◌&&◌, not, nat_le, drop, length, false};
-ghost use Rattle.std.specs.List.{list_all, join_with_byte};
+ghost use Rattle.std.specs.Prelude.{◌≡◌, List, ◌&&◌, not, nat_le, length, false};
+ghost use Rattle.std.specs.List.{list_all};
 ghost use Rattle.std.specs.Option.{option_map_or};
 ghost use Rattle.sv_workload.specs.Line.{Line};
 ghost use Rattle.sv_workload.specs.Checks.{is_printable, has_bad_text};
 
 use crate::read_line::ReadLine;
-use crate::words::Words;
 
-/// All that is after so many words, as one text.
-pub fn text_after<'a>(mut words: Words<'a>, count: usize) -> &'a [u8]
-    ensures { result.now ≡ join_with_byte 32 (drop count words.entry) }
-{
-    for _ in 0..count {
-        let Some(_) = words.next_word() else {
-            break;
-        };
-    }
-    words.text()
-}
-
+#[inline(always)]
 fn are_printable(text: &[u8]) -> bool
     ensures { result ≡ list_all is_printable text.now }
 {
@@ -27,6 +15,7 @@ fn are_printable(text: &[u8]) -> bool
 }
 
 /// Whether a text is too long, or not all of it can be printed.
+#[inline(always)]
 fn is_bad_text(text: &[u8], most: usize) -> bool
     ensures { result ≡ not (nat_le (length text.now) most && list_all is_printable text.now) }
 {
@@ -34,6 +23,7 @@ fn is_bad_text(text: &[u8], most: usize) -> bool
 }
 
 /// Whether the text of a line is too long, or not all of it can be printed.
+#[inline(always)]
 pub fn has_bad_text(line: &ReadLine<'_>) -> bool
     ensures { (before : List Line) → result ≡ has_bad_text before line.now }
 {

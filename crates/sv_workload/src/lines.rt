@@ -5,6 +5,7 @@ ghost use Rattle.sv_workload.specs.Lines.{IsNext, is_remark};
 use memchr::memchr;
 
 /// Where the first line ends, if a line feed ends it.
+#[inline(always)]
 fn line_end(text: &[u8]) -> Option<usize>
     ensures { result ≡ position (λ b. b == 10) text.now }
 {
@@ -12,6 +13,7 @@ fn line_end(text: &[u8]) -> Option<usize>
 }
 
 /// The first line of a text, and what stands after it.
+#[inline(always)]
 pub fn first_line(text: &[u8]) -> (&[u8], &[u8])
     requires { 0 < length text.now }
     ensures { IsNext text.now result.0.now result.1.now }
@@ -23,6 +25,7 @@ pub fn first_line(text: &[u8]) -> (&[u8], &[u8])
 }
 
 /// Whether a line is for the reader alone.
+#[inline(always)]
 pub fn is_remark(line: &[u8]) -> bool
     ensures { result ≡ is_remark line.now }
 {

@@ -73,6 +73,7 @@ pub fn task(alloc: Global, line: &ReadLine<'_>) -> Result<Task, NoMemory>
 /// counted, and the shift the count of their low bits that are dropped, 0 to 31.
 ///
 /// Memory is taken once for a text or for the numbers of a call, and else not.
+#[inline(always)]
 pub fn step(
     alloc: Global,
     line: &ReadLine<'_>,

@@ -1,99 +1,80 @@
 //! A line that was read.
-ghost use Rattle.std.specs.Prelude.{◌≡◌, ◌-◌, ◌^◌, map, min, option_and_then, option_map};
-ghost use Rattle.std.specs.Prelude.{unwrap_or};
+ghost use Rattle.std.specs.Prelude.{◌≡◌, ◌-◌, ◌^◌, List, map, min, option_and_then, unwrap_or, false};
 ghost use Rattle.sv_workload.specs.Forms.{form_of};
-ghost use Rattle.sv_workload.specs.Line.{line_of, numbers_of, text_of};
-ghost use Rattle.sv_workload.specs.Meaning.{number};
+ghost use Rattle.sv_workload.specs.Line.{Line, line_of, numbers_of, text_of};
+ghost use Rattle.sv_workload.specs.Meaning.{number, says};
 ghost use Rattle.sv_workload.specs.Numbers.{capped};
 ghost use Rattle.sv_workload.specs.Words.{number_of};
+ghost use Rattle.sv_workload.specs.Checks.{is_misshapen, has_bad_number};
 
 use crate::cut_line::{CutLine, cut_into_words};
+use crate::fields::{Fields, fields_of};
 use crate::form::{Form, form_of};
-use crate::keyword::Keyword;
-use crate::line_text::text_after;
-use crate::numbers::{number_or, numbers_of};
-use crate::words::Words;
-use arrayvec::ArrayVec;
+use crate::keyword::{Keyword, SetupWord};
+use crate::numbers::number_or;
 use std::marker::Model;
 
-/// A line, cut into its words, with the form of its keyword and its numbers, which are read once.
+/// A line with the form of its keyword, and all that its words say, each of which was read once.
 #[derive(Drop)]
 pub struct ReadLine<'a> {
     cut: CutLine<'a>,
     form: Form,
-    numbers: ArrayVec<u32, 9>,
+    fields: Fields<'a>,
 }
 
 impl<'a> Model for ReadLine<'a> {
-    ghost use Rattle.std.specs.Prelude.{◌≡◌, map};
+    ghost use Rattle.std.specs.Prelude.{◌≡◌};
+    ghost use Rattle.sv_workload.specs.Fields.{AreFieldsOf};
     ghost use Rattle.sv_workload.specs.Forms.{form_of};
-    ghost use Rattle.sv_workload.specs.Line.{Line, numbers_of};
-    ghost use Rattle.sv_workload.specs.Numbers.{capped};
+    ghost use Rattle.sv_workload.specs.Line.{Line};
 
     ghost Value = { Line };
 
     ghost view = { λ r. r.cut };
 
-    ghost invariant = { λ r.
-        (r.form ≡ form_of r.cut.keyword) × (r.numbers.items ≡ map capped (numbers_of r.cut)) };
+    ghost invariant = { λ r. (r.form ≡ form_of r.cut.keyword) × AreFieldsOf r.cut r.fields };
 }
 
 impl<'a> ReadLine<'a> {
     /// Reads a line that is no remark.
+    #[inline(always)]
     pub fn of(bytes: &'a [u8]) -> ReadLine<'a>
         ensures { result ≡ line_of bytes.now }
     {
         let cut = cut_into_words(bytes);
         let form = form_of(cut.keyword);
-        let numbers = numbers_of(&cut, &form);
-        ReadLine { cut, form, numbers }
+        let fields = fields_of(&cut, &form);
+        ReadLine { cut, form, fields }
     }
 
+    #[inline(always)]
     pub fn keyword(&self) -> Keyword
         ensures { result ≡ self.now.keyword }
     {
         self.cut.keyword
     }
 
-    /// What the keyword wants after it.
-    pub fn form(&self) -> &Form
-        ensures { result.now ≡ form_of self.now.keyword }
-    {
-        &self.form
-    }
-
-    /// The words after the keyword.
-    pub fn words(&self) -> Words<'a>
-        ensures { result ≡ self.now.words }
-    {
-        self.cut.words.again()
-    }
-
-    /// The word for the ticks that pass before a step.
-    pub fn advance(&self) -> Option<&'a [u8]>
-        ensures { option_map (λ word. word.now) result ≡ self.now.advance }
-    {
-        self.cut.advance
-    }
-
     /// The ticks that pass before a step. More than the greatest `u64` count as that many, and a
     /// line without a number for them has 0.
+    #[inline(always)]
     pub fn ticks(&self) -> u64
         ensures { result ≡
             min (unwrap_or (option_and_then number_of self.now.advance) 0) (2 ^ 64 - 1) }
     {
-        self.cut.ticks()
+        self.fields.ticks
     }
 
     /// The numbers after the keyword. One above the greatest `u32` counts as that one.
+    #[inline(always)]
     pub fn numbers(&self) -> &[u32]
         ensures { result.now ≡ map capped (numbers_of self.now) }
     {
-        self.numbers.as_slice()
+        self.fields.numbers.as_slice()
     }
 
     /// The first number. One above the greatest `u32` counts as that one, and a line without
     /// numbers has 0.
+    #[inline(always)]
     pub fn first_number(&self) -> u32
         ensures { result ≡ capped (number self.now 0) }
     {
@@ -101,6 +82,7 @@ impl<'a> ReadLine<'a> {
     }
 
     /// Whether the first number is an identifier of the target.
+    #[inline(always)]
     pub fn has_identifier(&self) -> bool
         ensures { result ≡ (form_of self.now.keyword).identifier }
     {
@@ -108,6 +90,7 @@ impl<'a> ReadLine<'a> {
     }
 
     /// How many bytes the text has at most, if there is one.
+    #[inline(always)]
     pub fn most_text(&self) -> Option<usize>
         ensures { result ≡ (form_of self.now.keyword).text }
     {
@@ -115,9 +98,27 @@ impl<'a> ReadLine<'a> {
     }
 
     /// The text after the numbers, with all its spaces.
+    #[inline(always)]
     pub fn text(&self) -> &'a [u8]
         ensures { result.now ≡ text_of self.now }
     {
-        text_after(self.words(), self.form.numbers.len())
+        self.fields.text
+    }
+
+    /// Whether a word is missing, empty or too many. The line is none of a command.
+    #[inline(always)]
+    pub fn is_misshapen(&self) -> bool
+        requires { says (Keyword.Setup SetupWord.Command) self.now ≡ false }
+        ensures { (before : List Line) → result ≡ is_misshapen before self.now }
+    {
+        !self.fields.shaped
+    }
+
+    /// Whether the ticks or a word for a number are no number, or one out of its range.
+    #[inline(always)]
+    pub fn has_bad_number(&self) -> bool
+        ensures { (before : List Line) → result ≡ has_bad_number before self.now }
+    {
+        !self.fields.ranged
     }
 }

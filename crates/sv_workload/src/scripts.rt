@@ -68,6 +68,7 @@ fn start_count(act: &Act) -> u64
 }
 
 /// Adds a step to a script. An `Err` changes nothing.
+#[inline(always)]
 fn add_step(script: &mut Vec<Step>, step: Step) -> Result<(), NoMemory>
     ensures ok { OnOk result (script.new.items ≡ script.old.items ++ step ∷ []) }
     ensures err { OnErr result (script.new.items ≡ script.old.items) }
@@ -79,6 +80,7 @@ fn add_step(script: &mut Vec<Step>, step: Step) -> Result<(), NoMemory>
 }
 
 /// Adds a step to the last of these scripts. An `Err` changes nothing.
+#[inline(always)]
 fn add_to_last(writers: &mut Vec<Vec<Step>>, step: Step) -> Result<(), NoMemory>
     requires some { 0 < length writers.old.items }
     ensures ok { OnOk result (map (λ script. script.items) writers.new.items
@@ -142,6 +144,7 @@ impl Scripts {
     }
 
     /// Adds a step to the script of the last writer. An `Err` changes nothing.
+    #[inline(always)]
     pub fn push(&mut self, step: Step) -> Result<(), NoMemory>
         requires some { 0 < length self.old }
         requires few { over_scripts (λ s. 1) self.old < most_steps }

@@ -22,6 +22,7 @@ impl<'a> Model for Words<'a> {
 }
 
 /// Where the first space is.
+#[inline(always)]
 fn space_at(line: &[u8]) -> Option<usize>
     ensures { result ≡ position (λ b. b == 32) line.now }
 {
@@ -29,6 +30,7 @@ fn space_at(line: &[u8]) -> Option<usize>
 }
 
 impl<'a> Words<'a> {
+    #[inline(always)]
     pub fn of(line: &'a [u8]) -> Words<'a>
         ensures { result ≡ words_of line.now }
     {
@@ -36,6 +38,7 @@ impl<'a> Words<'a> {
     }
 
     /// The next word.
+    #[inline(always)]
     pub fn next_word(&mut self) -> Option<&'a [u8]>
         ensures some { IfSome result (λ word. self.old ≡ word.now ∷ self.new) }
         ensures none { IfNone result ((self.old ≡ []) × (self.new ≡ [])) }
@@ -54,6 +57,7 @@ impl<'a> Words<'a> {
     }
 
     /// The same words once more.
+    #[inline(always)]
     pub fn again(&self) -> Words<'a>
         ensures { result ≡ self.now }
     {
@@ -61,6 +65,7 @@ impl<'a> Words<'a> {
     }
 
     /// All that is left of the line, as one text.
+    #[inline(always)]
     pub fn text(&self) -> &'a [u8]
         ensures { result.now ≡ join_with_byte 32 self.now }
     {

@@ -15,6 +15,7 @@ mod event;
 mod flat;
 mod forming;
 mod laws;
+mod measuring;
 mod packing;
 mod pen;
 mod reader;
@@ -27,6 +28,7 @@ pub use encoding::encode;
 pub use event::{Event, Packet, TimedEvent};
 pub use flat::encode_flat;
 pub use laws::{read_back, spelled_as, spelled_once};
+pub use measuring::spelled_len;
 pub use recording::recordable;
 pub use spelling::spell;
 

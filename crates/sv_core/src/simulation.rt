@@ -25,16 +25,15 @@ pub fn is_built(load: &Workload) -> bool
         && load.ring() >= 1024
 }
 
-/// The host takes everything that is stored.
-fn take_all(recorder: &mut Recorder<'_, PlainRing>)
+/// The host takes everything that is stored: a read that does not fill the buffer is the last one.
+fn take_all(recorder: &mut Recorder<'_, PlainRing>, buf: &mut [u8; 1024])
     ensures taken { recorder.new ≡ record recorder.old { freed = length recorder.old.sent } }
     ensures legal { IsLegal recorder.new.load recorder.new.items }
     ensures stream { recorder.new.sent ≡ stream_of recorder.new.load recorder.new.items }
 {
     recorder.keeps();
-    let mut buf = [0; 1024];
     loop {
-        if recorder.host_read(&mut buf) == 0 {
+        if recorder.host_read(buf) < buf.len() {
             return;
         }
     }
@@ -51,8 +50,9 @@ fn play(recorder: &mut Recorder<'_, PlainRing>)
     ensures stream { recorder.new.sent ≡ stream_of recorder.new.load recorder.new.items }
 {
     recorder.keeps();
+    let mut buf = [0; 1024];
     while let Some(_) = recorder.section(0) {
-        take_all(recorder);
+        take_all(recorder, &mut buf);
     }
 }
 

@@ -24,3 +24,4 @@ pub mod Bodies
 pub mod Stopping
 pub mod Once
 pub mod Totality
+pub mod Lengths

@@ -10,6 +10,7 @@ use crate::pen::Pen;
 use sv_prim::Buf;
 
 /// The packet of a valid event.
+#[inline(always)]
 pub fn put_packet<P: Pen>(event: &Event, delta: u32, pen: &mut P)
     requires valid { IsValid event.now }
     requires texts { HasTexts P.most event.now }
@@ -84,6 +85,7 @@ pub fn put_packet<P: Pen>(event: &Event, delta: u32, pen: &mut P)
 /// The packet has 2 to 183 bytes. Forming it takes no memory, and does not fail.
 ///
 /// [`recordable`]: crate::recordable
+#[inline(always)]
 pub fn encode(event: &Event, delta: u32, out: &mut Buf)
     requires recordable { IsRecordable event.now }
     requires empty { out.old.items ≡ [] }

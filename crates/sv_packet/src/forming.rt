@@ -9,6 +9,7 @@ ghost use Rattle.sv_packet.specs.Table.{Number, Text, Raw};
 use crate::pen::Pen;
 
 /// How many bytes a number's spelling has.
+#[inline(always)]
 pub fn number_len(number: u32) -> usize
     ensures len { result ≡ length (number_spelling number) }
     ensures most { result ≤ 5 }
@@ -41,6 +42,7 @@ pub fn numbers_len(numbers: &[u32]) -> usize
 }
 
 /// How many bytes a text's spelling has.
+#[inline(always)]
 pub fn text_len(text: &[u8]) -> usize
     requires { length text.now ≤ 65535 }
     ensures { result ≡ length (text_spelling text.now) }
@@ -53,6 +55,7 @@ pub fn text_len(text: &[u8]) -> usize
 }
 
 /// An identifier or a length, in one byte or two.
+#[inline(always)]
 fn put_short<P: Pen>(n: u16, pen: &mut P)
     requires small { n ≤ 16383 }
     requires room { 2 ≤ P.room pen.old }
@@ -68,6 +71,7 @@ fn put_short<P: Pen>(n: u16, pen: &mut P)
 }
 
 /// What stands before a payload of so many bytes.
+#[inline(always)]
 pub fn put_head<P: Pen>(id: u16, size: usize, pen: &mut P)
     requires known { id ≤ 16383 }
     requires small { 24 ≤ id → size ≤ 16383 }
@@ -84,6 +88,7 @@ pub fn put_head<P: Pen>(id: u16, size: usize, pen: &mut P)
 }
 
 /// Numbers one after another.
+#[inline(always)]
 pub fn put_numbers<P: Pen>(numbers: &[u32], pen: &mut P)
     requires room { length (numbers_spelling numbers.now) + 4 ≤ P.room pen.old }
     ensures written { P.written pen.new ≡ P.written pen.old ++ numbers_spelling numbers.now }

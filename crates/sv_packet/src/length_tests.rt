@@ -68,3 +68,16 @@ fn lengths_of_payloads(rt: HostRuntime) -> Result<(), Fail> {
     }
     Ok(())
 }
+
+#[test]
+#[tactic(auto, using(crate::proofs::Taken::high_valid))]
+fn lengths_by_sums(rt: HostRuntime) -> Result<(), Fail> {
+    let alloc = rt.alloc();
+    for (len, want) in [(0, 4), (127, 131), (128, 133), (16383, 16388)] {
+        let mut payload = Vec::new(alloc);
+        payload.resize(len, 0x41)?;
+        let event = opaque(alloc, 512, payload.as_slice())?;
+        assert_eq!(rt; spelled_len(&event), want, "of {len}");
+    }
+    Ok(())
+}

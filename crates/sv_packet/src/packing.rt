@@ -9,6 +9,7 @@ use crate::forming::{number_len, numbers_len, put_head, put_numbers, text_len};
 use crate::pen::Pen;
 
 /// An identifier below 24 and a delta.
+#[inline(always)]
 pub fn put_bare<P: Pen>(id: u8, delta: u32, pen: &mut P)
     requires low { id < 24 }
     requires room { 9 ≤ P.room pen.old }
@@ -19,6 +20,7 @@ pub fn put_bare<P: Pen>(id: u8, delta: u32, pen: &mut P)
 }
 
 /// An identifier below 24, one number and a delta.
+#[inline(always)]
 pub fn put_one<P: Pen>(id: u8, number: u32, delta: u32, pen: &mut P)
     requires low { id < 24 }
     requires room { length (fields_spelling (Number number ∷ [])) + 9 ≤ P.room pen.old }
@@ -45,6 +47,7 @@ pub fn put_plain<P: Pen>(id: u8, numbers: &[u32], delta: u32, pen: &mut P)
 }
 
 /// An identifier, numbers, a text and a delta.
+#[inline(never)]
 pub fn put_texted<P: Pen>(id: u8, numbers: &[u32], text: &[u8], delta: u32, pen: &mut P)
     requires few { length numbers.now ≤ 2 }
     requires most { (length text.now ≤ P.most) × (length text.now ≤ 65535) }
@@ -64,6 +67,7 @@ pub fn put_texted<P: Pen>(id: u8, numbers: &[u32], text: &[u8], delta: u32, pen:
 }
 
 /// A print: its text, its options, how many arguments it has, the arguments, and a delta.
+#[inline(never)]
 pub fn put_print<P: Pen>(text: &[u8], options: u32, args: &[u32], delta: u32, pen: &mut P)
     requires most { (length text.now ≤ P.most) × (length text.now ≤ 65535) }
     requires small { length (print_payload text.now options args.now) ≤ 16383 }
@@ -84,6 +88,7 @@ pub fn put_print<P: Pen>(text: &[u8], options: u32, args: &[u32], delta: u32, pe
 }
 
 /// An identifier, a payload as it stands, and a delta.
+#[inline(never)]
 pub fn put_opaque<P: Pen>(id: u16, payload: &[u8], delta: u32, pen: &mut P)
     requires known { id ≤ 16383 }
     requires small { 24 ≤ id → length payload.now ≤ 16383 }

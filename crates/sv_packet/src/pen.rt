@@ -52,10 +52,12 @@ impl Pen for Buf {
 
     ghost most = { 128 };
 
+    #[inline(always)]
     fn byte(&mut self, byte: u8) {
         self.push(byte);
     }
 
+    #[inline(always)]
     fn bytes(&mut self, bytes: &[u8]) {
         match self.try_extend_from_slice(bytes) {
             Ok(()) => {}
@@ -63,16 +65,19 @@ impl Pen for Buf {
         }
     }
 
+    #[inline(always)]
     fn number(&mut self, number: u32) {
         put_u32(number, self);
     }
 
+    #[inline(always)]
     fn text(&mut self, text: &[u8]) {
         put_text(text, self);
     }
 }
 
 /// Adds the bytes to a list that has room for them.
+#[inline(always)]
 fn add(bytes: &[u8], out: &mut Vec<u8>)
     requires { length out.old.items + length bytes.now ≤ vec_capacity out.old }
     ensures added { out.new.items ≡ out.old.items ++ bytes.now }
@@ -94,20 +99,24 @@ impl Pen for Vec<u8> {
 
     ghost most = { 65535 };
 
+    #[inline(always)]
     fn byte(&mut self, byte: u8) {
         self.push_reserved(byte);
     }
 
+    #[inline(always)]
     fn bytes(&mut self, bytes: &[u8]) {
         add(bytes, self);
     }
 
+    #[inline(always)]
     fn number(&mut self, number: u32) {
         let mut spelling = Buf::new();
         put_u32(number, &mut spelling);
         add(spelling.as_slice(), self);
     }
 
+    #[inline(always)]
     fn text(&mut self, text: &[u8]) {
         if text.len() < 255 {
             self.byte(text.len() as u8);

@@ -59,6 +59,7 @@ pub fn get_u32(bytes: &[u8]) -> Got<u32>
 ///
 /// It adds one to five bytes: one below 2^7, two below 2^14, three below 2^21, four below 2^28. It
 /// takes no memory, and does not fail.
+#[inline(always)]
 pub fn put_u32(v: u32, out: &mut Buf)
     requires { length out.old.items + 5 ≤ 256 }
     ensures { out.new.items ≡ out.old.items ++ number_spelling v }

@@ -63,6 +63,7 @@ pub fn get_text(bytes: &[u8]) -> Got<TextAt>
 ///
 /// The text has at most 128 bytes, as a target sends them, and one byte more than its length is
 /// free. It takes no memory, and does not fail.
+#[inline(always)]
 pub fn put_text(text: &[u8], out: &mut Buf)
     requires short { length text.now ≤ 128 }
     requires room { length out.old.items + length text.now + 1 ≤ 256 }

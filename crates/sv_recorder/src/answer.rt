@@ -19,6 +19,7 @@ impl Answer {
     ghost use Rattle.sv_recorder.specs.Answer.{answer_of};
 
     /// What became of a step whose call has this outcome.
+    #[inline(always)]
     pub(crate) fn of(outcome: Outcome) -> Answer
         ensures { result ≡ answer_of outcome }
     {

@@ -27,6 +27,7 @@ pub struct Book<'w, U: UpWriter + Drop> {
 }
 
 /// Whether the ring took the block.
+#[inline(always)]
 fn stores<U: UpWriter>(up: &mut U, block: &[u8]) -> bool
     requires some { 0 < length block.now }
     requires within { length (U.sent up.old) + length block.now ≤ U.limit up.old }
@@ -46,6 +47,7 @@ fn stores<U: UpWriter>(up: &mut U, block: &[u8]) -> bool
 }
 
 /// What became of a block.
+#[inline(always)]
 pub fn outcome_of(stored: bool) -> Outcome
     ensures { result ≡ outcome_if stored }
 {
@@ -60,6 +62,7 @@ impl<'w, U: UpWriter + Drop> Book<'w, U> {
     ghost use Rattle.sv_recorder.specs.Book.{Advances, IsReady, Stays};
 
     /// The ticks of a step pass.
+    #[inline(always)]
     pub fn advance(&mut self, ticks: u64)
         requires { self.old.moment + ticks < 2 ^ 64 }
         ensures { Advances ticks self.old self.new }
@@ -68,6 +71,7 @@ impl<'w, U: UpWriter + Drop> Book<'w, U> {
     }
 
     /// One item more, of the moment and with what the ring knows to be freed.
+    #[inline(always)]
     pub fn note(&mut self, origin: Origin, outcome: Outcome)
         requires room { length self.old.journal.items < vec_capacity self.old.journal }
         ensures item { self.new.journal.items ≡ self.old.journal.items
@@ -86,6 +90,7 @@ impl<'w, U: UpWriter + Drop> Book<'w, U> {
     }
 
     /// Writes a block, notes what became of it, and says whether it is stored.
+    #[inline(always)]
     pub fn write(&mut self, origin: Origin, block: &[u8]) -> bool
         requires some { 0 < length block.now }
         requires ready { IsReady 1 (length block.now) self.old }

@@ -98,6 +98,7 @@ impl Journal {
     }
 
     /// One item more, for which there is room.
+    #[inline(always)]
     pub(crate) fn push_reserved(&mut self, item: Item)
         requires room { length self.old.items < vec_capacity self.old }
         ensures item { self.new.items ≡ self.old.items ++ item ∷ [] }

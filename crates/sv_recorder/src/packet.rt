@@ -14,6 +14,7 @@ use sv_ring::UpWriter;
 use sv_workload::{Act, Workload};
 
 /// The packet of a step's event.
+#[inline(always)]
 fn form_step(load: &Workload, writer: u32, step: u32, ticks: u32, block: &mut Buf)
     requires formed { IsFormed load.now (Origin.Call writer step) }
     requires empty { block.old.items ≡ [] }
@@ -55,24 +56,24 @@ fn form_reply(load: &Workload, kind: Kind, moment: u64, ticks: u32, block: &mut 
 }
 
 /// The packet of an item at a moment, where the packet stored before it has the moment `last`.
-fn form(load: &Workload, origin: Origin, moment: u64, last: u64) -> Buf
+#[inline(always)]
+fn form(load: &Workload, origin: Origin, moment: u64, last: u64, block: &mut Buf)
     requires formed { IsFormed load.now origin }
     requires plain { IsPlain load.now }
     requires later { last ≤ moment }
-    ensures block { result.items ≡ packet_block load.now origin moment last }
-    ensures some { 0 < length result.items }
-    ensures short { length result.items ≤ block_bytes load.now origin }
+    requires empty { block.old.items ≡ [] }
+    ensures block { block.new.items ≡ packet_block load.now origin moment last }
+    ensures some { 0 < length block.new.items }
+    ensures short { length block.new.items ≤ block_bytes load.now origin }
 {
     let ticks = delta(moment, last);
-    let mut block = Buf::new();
     match origin {
-        Origin::Call { writer, step } => form_step(load, writer, step, ticks, &mut block),
-        Origin::Overflow { count } => encode(&Event::Overflow { count }, ticks, &mut block),
-        Origin::Reply { kind, .. } => form_reply(load, kind, moment, ticks, &mut block),
+        Origin::Call { writer, step } => form_step(load, writer, step, ticks, block),
+        Origin::Overflow { count } => encode(&Event::Overflow { count }, ticks, block),
+        Origin::Reply { kind, .. } => form_reply(load, kind, moment, ticks, block),
         Origin::Sync => unreachable!(),
         Origin::Command { .. } => unreachable!(),
     }
-    block
 }
 
 impl<'w, U: UpWriter + Drop> Book<'w, U> {
@@ -80,6 +81,7 @@ impl<'w, U: UpWriter + Drop> Book<'w, U> {
     ghost use Rattle.sv_recorder.specs.Book.{KeepsPacket, IsReady, Records, Settles};
 
     /// What a write leaves pending, and the moment of the last stored packet, which was `before`.
+    #[inline(always)]
     fn settle(&mut self, stored: bool, before: u64)
         requires { before ≤ self.old.moment }
         ensures { Settles stored before self.old self.new }
@@ -94,6 +96,7 @@ impl<'w, U: UpWriter + Drop> Book<'w, U> {
     }
 
     /// Records a packet while nothing is pending.
+    #[inline(always)]
     fn write_plain(&mut self, origin: Origin) -> Outcome
         requires packet { HasPacket self.old.load.now origin }
         requires ready { IsReady 2 (packet_bytes self.old.load.now origin)
@@ -104,7 +107,8 @@ impl<'w, U: UpWriter + Drop> Book<'w, U> {
         ensures records { Records origin result self.old
             self.new }
     {
-        let block = form(self.load, origin, self.moment, self.last);
+        let mut block = Buf::new();
+        form(self.load, origin, self.moment, self.last, &mut block);
         let stored = self.write(origin, &block);
         self.settle(stored, self.last);
         outcome_of(stored)
@@ -112,6 +116,7 @@ impl<'w, U: UpWriter + Drop> Book<'w, U> {
 
     /// Records a packet while packets are pending: after an overflow with their count, and refused
     /// with it where that is refused.
+    #[inline(never)]
     fn write_after_overflow(&mut self, origin: Origin) -> Outcome
         requires packet { HasPacket self.old.load.now origin }
         requires ready { IsReady 2 (packet_bytes self.old.load.now origin)
@@ -124,19 +129,22 @@ impl<'w, U: UpWriter + Drop> Book<'w, U> {
     {
         let count = self.pending;
         let overflow = Origin::Overflow { count };
-        let block = form(self.load, overflow, self.moment, self.last);
+        let mut block = Buf::new();
+        form(self.load, overflow, self.moment, self.last, &mut block);
         if !self.write(overflow, &block) {
             self.note(origin, Outcome::Refused);
             self.pending = count + 1;
             return Outcome::Refused;
         }
-        let block = form(self.load, origin, self.moment, self.moment);
+        let mut block = Buf::new();
+        form(self.load, origin, self.moment, self.moment, &mut block);
         let stored = self.write(origin, &block);
         self.settle(stored, self.moment);
         outcome_of(stored)
     }
 
     /// Records a packet: ignores it while the recorder is off.
+    #[inline(always)]
     pub fn packet(&mut self, origin: Origin) -> Outcome
         requires packet { HasPacket self.old.load.now origin }
         requires ready { IsReady 2 (packet_bytes self.old.load.now origin)

@@ -95,6 +95,7 @@ impl<'w, U: UpWriter + Drop> Book<'w, U> {
     }
 
     /// A step that records an event.
+    #[inline(always)]
     fn event(&mut self, writer: u32, step: u32) -> Answer
         requires formed { IsFormed self.old.load.now (Call writer step) }
         requires ready { IsReady 2
@@ -111,6 +112,7 @@ impl<'w, U: UpWriter + Drop> Book<'w, U> {
     }
 
     /// The next step of a writer's script, whose ticks have passed: it records what it says.
+    #[inline(always)]
     pub fn take(&mut self, writer: u32, place: u32, step: &Step) -> Answer
         requires step { step_of self.old.load.now writer place ≡ Some step.now }
         requires act { IsStepAct step.now.act }

@@ -16,7 +16,7 @@ returns-then-not-write-clause-kept g c =
     refused-holds c.args.self.now c.write.new.self c.note.new.self c.args.origin c.deref.result.now
     c.write.ensures.stays c.note.ensures.stays c.note.ensures.up c.args.self.now.ring c.requires.on
     c.requires.some (rw c.if-not-write.true at c.write.ensures.writes) (c.deref.ensures.0
-    ∙ c.form-block.ensures.block) c.note.ensures.item
+    ∙ c.form.ensures.block) c.note.ensures.item
 
 pub write-stored-requires-clause-ready : goal.write-stored-requires-clause-ready
 write-stored-requires-clause-ready g c =
@@ -26,9 +26,9 @@ write-stored-requires-clause-ready g c =
     let w = rw c.if-not-write.false at c.write.ensures.writes in
     ready_after old c.write.new.self c.args.origin c.deref.result.now c.deref-2.result.now
     ready c.requires.packet.formed stays stays.same stays.capacity w
-    (as_long c.deref.result.now _ overflow_bytes c.deref.ensures.0 c.form-block.ensures.short)
+    (as_long c.deref.result.now _ overflow_bytes c.deref.ensures.0 c.form.ensures.short)
     (as_long c.deref-2.result.now _ (block_bytes old.load.now c.args.origin) c.deref-2.ensures.0
-    (rw c.write.ensures.stays.load at c.form-block-2.ensures.short))
+    (rw c.write.ensures.stays.load at c.form-2.ensures.short))
 
 pub returns-clause-kept : goal.returns-clause-kept
 returns-clause-kept g c =
@@ -37,9 +37,9 @@ returns-clause-kept g c =
     c.args.origin c.deref.result.now c.deref-2.result.now c.write-stored.result
     c.write.ensures.stays c.write-stored.ensures.stays c.settle.ensures c.args.self.now.ring
     c.write.ensures.stays.same.1 c.requires.on c.requires.some w (c.deref.ensures.0
-    ∙ c.form-block.ensures.block) c.write-stored.ensures.writes
+    ∙ c.form.ensures.block) c.write-stored.ensures.writes
     (c.deref-2.ensures.0 ∙ (rw (c.write.ensures.stays.load, c.write.ensures.stays.moment) at
-    c.form-block-2.ensures.block))
+    c.form-2.ensures.block))
 
 pub returns-clause-records : goal.returns-clause-records
 returns-clause-records g c =
@@ -54,12 +54,12 @@ returns-clause-records g c =
           c.write.ensures.stays.same c.write-stored.ensures.stays.same
           c.write.ensures.stays.capacity c.write-stored.ensures.stays.capacity w
           c.write-stored.ensures.writes m c.write-stored.ensures.moves
-          (c.deref.ensures.0 ∙ c.form-block.ensures.block)
+          (c.deref.ensures.0 ∙ c.form.ensures.block)
           (c.deref-2.ensures.0 ∙ (rw (c.write.ensures.stays.load, c.write.ensures.stays.moment) at
-          c.form-block-2.ensures.block))
-          (as_long c.deref.result.now _ overflow_bytes c.deref.ensures.0 c.form-block.ensures.short)
+          c.form-2.ensures.block))
+          (as_long c.deref.result.now _ overflow_bytes c.deref.ensures.0 c.form.ensures.short)
           (as_long c.deref-2.result.now _ (block_bytes c.args.self.now.load.now c.args.origin)
-          c.deref-2.ensures.0 (rw c.write.ensures.stays.load at c.form-block-2.ensures.short))
+          c.deref-2.ensures.0 (rw c.write.ensures.stays.load at c.form-2.ensures.short))
           c.requires.packet.telling c.requires.packet.formed;
       on = c.settle.ensures.on ∙ c.write-stored.ensures.stays.on ∙ c.write.ensures.stays.on;
       item = gains_two old.journal.items c.write.new.self.journal.items
@@ -85,7 +85,7 @@ returns-then-not-write-clause-records g c =
           c.write.ensures.stays.same c.write.ensures.stays.capacity
           c.note.ensures.stays.capacity (rw c.if-not-write.true at c.write.ensures.writes)
           (rw c.if-not-write.true at c.write.ensures.moves)
-          (c.deref.ensures.0 ∙ c.form-block.ensures.block) c.note.ensures.item
+          (c.deref.ensures.0 ∙ c.form.ensures.block) c.note.ensures.item
           c.requires.packet.telling) refl refl refl refl refl (omega arith);
       on = c.note.ensures.stays.on ∙ c.write.ensures.stays.on;
       item = gains_two old.journal.items c.write.new.self.journal.items

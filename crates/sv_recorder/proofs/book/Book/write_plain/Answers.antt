@@ -10,7 +10,7 @@ returns-clause-kept g c =
     plain-holds c.args.self.now c.write-stored.new.self c.settle.new.self c.args.origin
     c.deref.result.now c.write-stored.result
     c.write-stored.ensures.stays c.settle.ensures c.args.self.now.ring c.requires.on c.requires.none
-    c.write-stored.ensures.writes (c.deref.ensures.0 ∙ c.form-block.ensures.block)
+    c.write-stored.ensures.writes (c.deref.ensures.0 ∙ c.form.ensures.block)
 
 pub returns-clause-records : goal.returns-clause-records
 returns-clause-records g c =
@@ -21,8 +21,8 @@ returns-clause-records g c =
           c.deref.result.now c.write-stored.result
           w.stays c.settle.ensures c.args.self.now.ring w.stays.same w.stays.capacity w.writes
           w.moves
-          (c.deref.ensures.0 ∙ c.form-block.ensures.block)
-          (as_long c.deref.result.now _ _ c.deref.ensures.0 c.form-block.ensures.short)
+          (c.deref.ensures.0 ∙ c.form.ensures.block)
+          (as_long c.deref.result.now _ _ c.deref.ensures.0 c.form.ensures.short)
           c.requires.packet.telling c.requires.packet.formed;
       on = c.settle.ensures.on ∙ w.stays.on;
       item = gains_one c.args.self.now.journal.items c.settle.new.self.journal.items c.args.origin

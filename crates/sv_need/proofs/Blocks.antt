@@ -9,14 +9,13 @@ use Rattle.std.proofs.lemmas.List.Elements.{All-get_or}
 use Rattle.std.proofs.lemmas.Option.{slice_get_within, get_or_from_slice_get, unwrap_or-slice_get}
 use Rattle.sv_prim.specs.Number.{number_spelling}
 use Rattle.sv_prim.specs.Text.{text_spelling}
-use Rattle.sv_prim.proofs.Spellings.{of_few}
-use Rattle.sv_prim.proofs.Texts.{text_spelling-short}
+use Rattle.sv_prim.proofs.Shared.{of_few, text_spelling-short}
 use Rattle.sv_packet.specs.declared.event.Event.{Event}
 use Rattle.sv_packet.specs.declared.event.Event.TheVariants as events
 use Rattle.sv_packet.specs.Table.{identifier, Number}
 use Rattle.sv_packet.specs.Spelling.{short_spelling, head_spelling, spelling_of, payload_of}
 use Rattle.sv_packet.specs.Spelling.{fields_spelling}
-use Rattle.sv_packet.proofs.Sizes.{plain_small}
+use Rattle.sv_packet.proofs.Shared.{plain_small}
 use Rattle.sv_workload.specs.declared.load.Task.{Task}
 use Rattle.sv_workload.specs.declared.load.ModuleRow.{ModuleRow}
 use Rattle.sv_workload.specs.Load.{Load}

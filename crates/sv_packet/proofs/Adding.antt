@@ -4,7 +4,7 @@ use Rattle.std.proofs.lemmas.Bool.{cases_lt}
 use Rattle.std.proofs.lemmas.List.{length-append, append-nil, take_more, take-append-drop}
 use Rattle.std.proofs.lemmas.List.Concat.{flat_map-append}
 use Rattle.sv_prim.specs.Number.{number_spelling, numbers_spelling, AreWords}
-use Rattle.sv_prim.proofs.Spellings.{groups_of-last, groups_of-next, of_few}
+use Rattle.sv_prim.proofs.Shared.{groups_of-last, groups_of-next, of_few}
 
 pub of_some : (number : ℕ) → 0 < length (number_spelling number)
 of_some number = elim (cases_lt number 128) [

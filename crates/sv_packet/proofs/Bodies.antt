@@ -5,8 +5,7 @@ use Rattle.std.proofs.lemmas.List.{append-nil}
 use Rattle.sv_prim.specs.Code.{IsPair}
 use Rattle.sv_prim.specs.Number.{IsGroups, IsNumber}
 use Rattle.sv_prim.specs.Text.{AreBytes, IsText}
-use Rattle.sv_prim.proofs.Groups.{zero_number}
-use Rattle.sv_prim.proofs.Below.{bytes_both}
+use Rattle.sv_prim.proofs.Shared.{bytes_both, zero_number}
 use Rattle.sv_packet.specs.declared.event.Event.{Event}
 use Rattle.sv_packet.specs.declared.event.Event.TheVariants as event
 use Rattle.sv_packet.specs.declared.event.Packet.{Packet}

@@ -8,7 +8,7 @@ use Rattle.sv_prim.specs.declared.got.Reason.{Reason}
 use Rattle.sv_prim.specs.declared.got.Reason.TheVariants.{BadNumber}
 use Rattle.sv_prim.specs.Code.{IsPrefixFree, IsPair, PairReason, Always}
 use Rattle.sv_prim.specs.Number.{IsNumber, number_reason}
-use Rattle.sv_prim.proofs.Groups.{zero_number}
+use Rattle.sv_prim.proofs.Shared.{zero_number}
 use Rattle.sv_packet.specs.declared.reader.Reader.{Reader}
 use Rattle.sv_packet.specs.declared.reader.Stop.{Stop}
 use Rattle.sv_packet.specs.Table.{Field, Number}

@@ -10,12 +10,8 @@ use Rattle.sv_prim.specs.Code.{Tells, IsTotal, IsPair, PairReason, Always}
 use Rattle.sv_prim.specs.Number.{IsNumber, number_reason}
 use Rattle.sv_prim.specs.Text.{AreBytes, IsText}
 use Rattle.sv_prim.specs.TextAt.{text_reason}
-use Rattle.sv_prim.proofs.Groups.{number_free, zero_number}
-use Rattle.sv_prim.proofs.Texts.{text_free}
-use Rattle.sv_prim.proofs.TextsAt.{text_total}
-use Rattle.sv_prim.proofs.Sequence.{pair_free}
-use Rattle.sv_prim.proofs.Carried.{carried_total}
-use Rattle.sv_prim.proofs.Totality.{number_total, pair_total}
+use Rattle.sv_prim.proofs.Shared.{carried_total, number_free, number_total, pair_free, pair_total}
+use Rattle.sv_prim.proofs.Shared.{text_free, text_total, zero_number}
 use Rattle.sv_packet.specs.declared.event.Event.{Event}
 use Rattle.sv_packet.specs.declared.event.Event.TheVariants as event
 use Rattle.sv_packet.specs.Table.{identifier}

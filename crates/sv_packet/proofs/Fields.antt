@@ -2,8 +2,7 @@
 use Rattle.std.proofs.Common.{◌≡◌, ℕ, ◌<◌, List, [], ◌∷◌, ◌++◌, map, length, refl, sym, ap, ◌∙◌, append_assoc, arith}
 use Rattle.std.proofs.lemmas.List.{append_cancel_left, length-append}
 use Rattle.sv_prim.specs.Number.{IsGroups}
-use Rattle.sv_prim.proofs.Groups.{number_free}
-use Rattle.sv_prim.proofs.Texts.{text_free}
+use Rattle.sv_prim.proofs.Shared.{number_free, text_free}
 use Rattle.sv_packet.specs.Table.{Field, Number, Text, Raw}
 use Rattle.sv_packet.specs.Packet.{IsField, AreFields}
 

@@ -4,8 +4,7 @@ use Rattle.sv_prim.specs.Number.{IsNumber, number_reason}
 use Rattle.sv_prim.specs.Text.{IsText}
 use Rattle.sv_prim.specs.TextAt.{text_reason}
 use Rattle.sv_prim.specs.Code.{IsPrefixFree}
-use Rattle.sv_prim.proofs.Groups.{number_free}
-use Rattle.sv_prim.proofs.Texts.{text_free}
+use Rattle.sv_prim.proofs.Shared.{number_free, text_free}
 use Rattle.sv_packet.specs.declared.event.Event.TheVariants as event
 use Rattle.sv_packet.specs.declared.reader.Reader.{Reader}
 use Rattle.sv_packet.specs.declared.reader.Stop.{Stop}

@@ -2,8 +2,7 @@
 use Rattle.std.proofs.Common.{◌≡◌, ℕ, ◌+◌, ◌<◌, ◌≤◌, ◌⊎◌, List, [], ◌∷◌, ◌++◌, length, sym, ap, subst, ◌∙◌, append_assoc, arith, inl, inr}
 use Rattle.std.proofs.lemmas.List.{append_cancel_left}
 use Rattle.sv_prim.specs.Code.{IsPrefixFree}
-use Rattle.sv_prim.proofs.Groups.{number_free}
-use Rattle.sv_prim.proofs.Sequence.{fronts_same}
+use Rattle.sv_prim.proofs.Shared.{fronts_same, number_free}
 use Rattle.sv_packet.specs.declared.event.Event.{Event}
 use Rattle.sv_packet.specs.declared.event.Packet.{Packet}
 use Rattle.sv_packet.specs.Table.{identifier, fields}

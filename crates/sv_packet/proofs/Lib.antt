@@ -25,3 +25,4 @@ pub mod Stopping
 pub mod Once
 pub mod Totality
 pub mod Lengths
+pub mod Shared

@@ -4,10 +4,8 @@ use Rattle.std.proofs.lemmas.List.{length-append, length-replicate, length-take,
 use Rattle.sv_prim.specs.Code.{Begins, IsCutShort, BreaksAt, IsPrefixFree}
 use Rattle.sv_prim.specs.Text.{AreBytes, IsText}
 use Rattle.sv_prim.specs.TextAt.{IsTextAt}
-use Rattle.sv_prim.proofs.Below.{bytes_front, bytes_both, zeros}
-use Rattle.sv_prim.proofs.Sequence.{fronts_same}
-use Rattle.sv_prim.proofs.Carried.{carried_breaks}
-use Rattle.sv_prim.proofs.TextsAt.{at_of}
+use Rattle.sv_prim.proofs.Shared.{at_of, bytes_both, bytes_front, carried_breaks, fronts_same}
+use Rattle.sv_prim.proofs.Shared.{zeros}
 use Rattle.sv_packet.specs.Parts.{IsOfSize}
 
 pub text_breaks : (bytes : List ℕ) (place : ℕ) → BreaksAt IsTextAt bytes place → BreaksAt IsText bytes place

@@ -6,7 +6,7 @@ use Rattle.std.proofs.Math.Nat.{mod-eq_of_lt}
 use Rattle.std.proofs.lemmas.Bool.Decides.{nat_tests}
 use Rattle.sv_prim.specs.Code.{Begins}
 use Rattle.sv_prim.specs.Number.{groups_sum, IsGroups, IsNumber, number_reason}
-use Rattle.sv_prim.proofs.Groups.{number_free}
+use Rattle.sv_prim.proofs.Shared.{number_free}
 use Rattle.sv_packet.specs.declared.reader.Reader.{Reader}
 use Rattle.sv_packet.specs.declared.reader.Stop.{Stop}
 use Rattle.sv_packet.specs.Table.{Number}

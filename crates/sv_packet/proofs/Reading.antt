@@ -3,8 +3,9 @@ use Rattle.std.proofs.Common.{◌≡◌, ℕ, ◌+◌, List, take, drop, sym, ap
 use Rattle.std.proofs.lemmas.List.{drop-drop, drop-take}
 use Rattle.sv_prim.specs.declared.got.Reason.{Reason}
 use Rattle.sv_prim.specs.Code.{Begins, IsCutShort, BreaksAt, IsPrefixFree, IsPair, PairReason}
-use Rattle.sv_prim.proofs.Sequence.{pair_begins, pair_short_first, pair_short_second, pair_breaks_first, pair_breaks_second, begins_in_front}
-use Rattle.sv_prim.proofs.Carried.{carried_short, carried_breaks}
+use Rattle.sv_prim.proofs.Shared.{begins_in_front, carried_breaks, carried_short, pair_begins}
+use Rattle.sv_prim.proofs.Shared.{pair_breaks_first, pair_breaks_second, pair_short_first}
+use Rattle.sv_prim.proofs.Shared.{pair_short_second}
 use Rattle.sv_packet.specs.declared.reader.Reader.{Reader}
 use Rattle.sv_packet.specs.declared.reader.Stop.{Stop}
 use Rattle.sv_packet.specs.declared.reader.Stop.TheVariants.{Short, Bad}

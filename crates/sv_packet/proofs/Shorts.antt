@@ -5,7 +5,7 @@ use Rattle.std.proofs.lemmas.List.{length-append, nil_from_length, take-append-d
 use Rattle.sv_prim.specs.declared.got.Reason.TheVariants.{BadId}
 use Rattle.sv_prim.specs.Code.{GoesOn, IsCutShort, BreaksAt, IsPrefixFree, Always}
 use Rattle.sv_prim.specs.Text.{AreBytes}
-use Rattle.sv_prim.proofs.Codes.{not_nil}
+use Rattle.sv_prim.proofs.Shared.{not_nil}
 use Rattle.sv_packet.specs.Packet.{IsShortNumber}
 use Rattle.sv_packet.specs.declared.reader.Reader.{Reader}
 use Rattle.sv_packet.specs.declared.reader.Stop.{Stop}

@@ -3,8 +3,7 @@ use Rattle.std.proofs.Common.{◌≡◌, ℕ, ◌+◌, ◌*◌, ◌≤◌, List,
 use Rattle.std.proofs.lemmas.Bool.{cases_lt}
 use Rattle.std.proofs.lemmas.List.{length-append}
 use Rattle.sv_prim.specs.Text.{text_spelling}
-use Rattle.sv_prim.proofs.Spellings.{of_few}
-use Rattle.sv_prim.proofs.Texts.{text_spelling-short, text_spelling-long}
+use Rattle.sv_prim.proofs.Shared.{of_few, text_spelling-long, text_spelling-short}
 use Rattle.sv_packet.specs.declared.event.Event.{Event}
 use Rattle.sv_packet.specs.declared.event.Event.TheVariants.{TaskInfo, SysDesc, ModuleDesc, NameResource, Print, EndCall, Opaque}
 use Rattle.sv_packet.specs.Table.{fields, Field, Number, Text, Raw}

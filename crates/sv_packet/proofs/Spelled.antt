@@ -5,8 +5,7 @@ use Rattle.std.specs.List.{AllByRecursion}
 use Rattle.std.proofs.lemmas.Bool.{cases_lt}
 use Rattle.std.proofs.lemmas.Bool.Decides.{nat_tests}
 use Rattle.sv_prim.specs.Number.{number_spelling}
-use Rattle.sv_prim.proofs.Spellings.{spelled, once}
-use Rattle.sv_prim.proofs.Texts.{text_fits, text_once, text_spelled}
+use Rattle.sv_prim.proofs.Shared.{once, spelled, text_fits, text_once, text_spelled}
 use Rattle.sv_packet.specs.declared.event.Event.{Event}
 use Rattle.sv_packet.specs.declared.event.Event.TheVariants.{Opaque}
 use Rattle.sv_packet.specs.declared.event.Packet.{Packet}

@@ -10,11 +10,8 @@ use Rattle.sv_prim.specs.Code.{Begins, Tells, IsTotal, IsOneReason, IsPair, Alwa
 use Rattle.sv_prim.specs.Number.{IsNumber, number_reason}
 use Rattle.sv_prim.specs.Text.{AreBytes}
 use Rattle.sv_prim.specs.TextAt.{text_reason}
-use Rattle.sv_prim.proofs.Below.{bytes_behind}
-use Rattle.sv_prim.proofs.Codes.{begins_not_cut, begins_not_breaks}
-use Rattle.sv_prim.proofs.Carried.{carried_total}
-use Rattle.sv_prim.proofs.Sequence.{pair_reason}
-use Rattle.sv_prim.proofs.Totality.{number_total, pair_total}
+use Rattle.sv_prim.proofs.Shared.{begins_not_breaks, begins_not_cut, bytes_behind, carried_total}
+use Rattle.sv_prim.proofs.Shared.{number_total, pair_reason, pair_total}
 use Rattle.sv_packet.specs.declared.event.Packet.{Packet}
 use Rattle.sv_packet.specs.Packet.{IsShortNumber, IsPacket}
 use Rattle.sv_packet.specs.Packets.{ArePackets, BeginsWithNone}

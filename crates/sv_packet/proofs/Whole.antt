@@ -8,7 +8,7 @@ use Rattle.sv_prim.specs.declared.got.Got.{Got}
 use Rattle.sv_prim.specs.declared.got.Got.TheVariants as got
 use Rattle.sv_prim.specs.Code.{Begins, Tells, IsPrefixFree, IsTotal, IsPair}
 use Rattle.sv_prim.specs.Text.{AreBytes}
-use Rattle.sv_prim.proofs.Codes.{begins_once, begins_not_cut, begins_not_breaks}
+use Rattle.sv_prim.proofs.Shared.{begins_not_breaks, begins_not_cut, begins_once}
 use Rattle.sv_packet.specs.declared.reader.Reader.{Reader}
 use Rattle.sv_packet.specs.declared.reader.Stop.{Stop}
 use Rattle.sv_packet.specs.declared.reader.Stop.TheVariants.{Short, Bad}

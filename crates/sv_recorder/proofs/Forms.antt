@@ -4,7 +4,7 @@ use Rattle.std.proofs.Common.{◌∷◌, ◌++◌, length, refl, arith}
 use Rattle.std.specs.Prelude.{nat_lt}
 use Rattle.std.proofs.lemmas.List.{length-append}
 use Rattle.sv_prim.specs.Number.{number_spelling}
-use Rattle.sv_prim.proofs.Spellings.{of_few}
+use Rattle.sv_prim.proofs.Shared.{of_few}
 use Rattle.sv_packet.specs.Spelling.{short_spelling}
 use Rattle.sv_workload.specs.Load.{Load, period}
 use Rattle.sv_recorder.specs.declared.journal.Kind.{Kind}

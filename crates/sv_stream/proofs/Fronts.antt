@@ -1,7 +1,7 @@
 -- A decoder at whose front an event stands, and behind it.
 use Rattle.std.proofs.Common.{◌≡◌, ℕ, ◌+◌, ◌<◌, arith, length, List, [], ◌∷◌, ◌++◌, drop, refl, sym, ap, subst, ◌∙◌}
 use Rattle.sv_prim.specs.Code.{Begins, IsCutShort, BreaksAt}
-use Rattle.sv_prim.proofs.Codes.{begins_not_cut, begins_not_breaks}
+use Rattle.sv_prim.proofs.Shared.{begins_not_breaks, begins_not_cut}
 use Rattle.sv_packet.specs.declared.event.Event.{Event}
 use Rattle.sv_packet.specs.declared.event.Packet.{Packet}
 use Rattle.sv_packet.specs.declared.event.TimedEvent.{TimedEvent}

@@ -21,7 +21,7 @@ use Rattle.sv_packet.specs.Made.{HasList}
 use Rattle.sv_packet.specs.Reason.{packet_reason}
 use Rattle.sv_stream.proofs.Packets.{readable}
 use Rattle.sv_stream.proofs.Sizes.{two_bytes}
-use Rattle.sv_prim.proofs.Codes.{begins_not_breaks}
+use Rattle.sv_prim.proofs.Shared.{begins_not_breaks}
 use Rattle.sv_stream.proofs.Telling.{less_begins_none}
 use Rattle.sv_stream.proofs.Times.{event_behind}
 use Rattle.sv_stream.proofs.Standing.{IsBehind, IsPast, at_not_damaged, stands_less, stands_bad, stands_value, stands_past, stands_piece}

@@ -3,7 +3,7 @@ use Rattle.std.proofs.Common.{◌≡◌, ℕ, ◌+◌, ◌<◌, List, [], ◌∷
 use Rattle.std.proofs.lemmas.List.{length-append, length-take-le, append_cancel_left, take_at}
 use Rattle.sv_prim.specs.declared.got.Reason.{Reason}
 use Rattle.sv_prim.specs.Code.{Begins, IsPrefixFree, IsOneReason}
-use Rattle.sv_prim.proofs.Codes.{begins_not_cut, begins_not_breaks, cut_not_breaks, breaks_once}
+use Rattle.sv_prim.proofs.Shared.{begins_not_breaks, begins_not_cut, breaks_once, cut_not_breaks}
 use Rattle.sv_stream.specs.declared.end.End.{End}
 use Rattle.sv_stream.specs.declared.end.End.TheVariants.{Clean, Truncated, NoSync, Damaged}
 use Rattle.sv_stream.specs.Input.{EndsAt, Goes, ReadsBy}

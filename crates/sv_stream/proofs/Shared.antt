@@ -6,7 +6,7 @@ use Rattle.sv_packet.specs.declared.event.TimedEvent.{TimedEvent}
 use Rattle.sv_packet.specs.Packet.{IsPacket}
 use Rattle.sv_packet.specs.Reason.{packet_reason}
 use Rattle.sv_packet.specs.Time.{timed}
-use Rattle.sv_packet.proofs.Totality.{packet_total}
+use Rattle.sv_packet.proofs.Shared.{packet_total}
 use Rattle.sv_stream.specs.declared.end.End.{End}
 use Rattle.sv_stream.specs.Reads.{Reads}
 use Rattle.sv_stream.proofs.Existing.{reads_exists}
@@ -15,7 +15,7 @@ use Rattle.sv_stream.proofs.Once.{reads_once}
 use Rattle.sv_stream.proofs.Packets.{readable}
 use Rattle.sv_stream.proofs.Times.{timed-grown}
 pub use Rattle.sv_stream.proofs.Standing.{stands_first}
-pub use Rattle.sv_prim.proofs.Below.{bytes_both}
+pub use Rattle.sv_prim.proofs.Shared.{bytes_both}
 
 -- bytes have a reading
 pub reading : (input : List ℕ) → AreBytes input → (packets : List Packet) × (end : End) × Reads input packets end

@@ -8,8 +8,8 @@ use Rattle.sv_packet.specs.declared.event.Event.TheVariants.{Opaque}
 use Rattle.sv_packet.specs.declared.event.Packet.{Packet}
 use Rattle.sv_packet.specs.Table.{identifier, fields, Field, Number, Text, Raw}
 use Rattle.sv_packet.specs.Packet.{IsField, AreFields, IsShortNumber, IsHead, IsKeptAsBytes, IsPacket}
-use Rattle.sv_packet.proofs.Once.{packet_size}
-use Rattle.sv_prim.proofs.Codes.{not_nil}
+use Rattle.sv_packet.proofs.Shared.{packet_size}
+use Rattle.sv_prim.proofs.Shared.{not_nil}
 
 -- ---- a payload without a length
 

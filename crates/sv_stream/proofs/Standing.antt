@@ -21,7 +21,7 @@ use Rattle.sv_stream.proofs.Once.{nothing_begins, reads_once}
 use Rattle.sv_stream.proofs.Searching.{searched_none, synced-body}
 use Rattle.sv_stream.proofs.Passing.{passes-more, passes-piece, passes-front, synced-piece}
 use Rattle.sv_stream.proofs.Telling.{IsLess, value_next, less_next, bad_next, not_damaged}
-use Rattle.sv_packet.proofs.Times.{time_of-push, timed-push}
+use Rattle.sv_packet.proofs.Shared.{time_of-push, timed-push}
 use Rattle.sv_stream.proofs.Times.{event_behind, timed-grown, timed-next}
 use Rattle.sv_stream.proofs.Packets.{readable}
 

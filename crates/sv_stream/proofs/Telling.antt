@@ -3,7 +3,7 @@ use Rattle.std.proofs.Common.{◌≡◌, ℕ, zero, suc, ◌+◌, List, [], ◌�
 use Rattle.std.proofs.lemmas.List.{take-append-drop}
 use Rattle.sv_prim.specs.declared.got.Reason.{Reason}
 use Rattle.sv_prim.specs.Code.{Begins, IsCutShort, BreaksAt}
-use Rattle.sv_prim.proofs.Codes.{begins_not_cut, begins_not_breaks}
+use Rattle.sv_prim.proofs.Shared.{begins_not_breaks, begins_not_cut}
 use Rattle.sv_stream.specs.declared.end.End.{End}
 use Rattle.sv_stream.specs.declared.end.End.TheVariants.{Damaged}
 use Rattle.sv_stream.specs.Input.{EndsAt, Goes}

@@ -3,7 +3,7 @@ use Rattle.std.proofs.Common.{◌≡◌, ℕ, ◌+◌, List, [], ◌∷◌, ◌+
 use Rattle.sv_packet.specs.declared.event.Packet.{Packet}
 use Rattle.sv_packet.specs.declared.event.TimedEvent.{TimedEvent}
 use Rattle.sv_packet.specs.Time.{time_of, timed}
-use Rattle.sv_packet.proofs.Times.{timed_behind, timed-append, time_of-push}
+use Rattle.sv_packet.proofs.Shared.{time_of-push, timed-append, timed_behind}
 
 -- the events of more packets come behind those of the first
 pub timed-grown : (ps qs : List Packet) → (more : List TimedEvent) × (timed (ps ++ qs) ≡ timed ps ++ more)

@@ -8,8 +8,8 @@ ghost use Rattle.sv_workload.specs.Limits.{most_steps, most_starts, most_ticks};
 use crate::load::{Act, Need, Step};
 use std::alloc::Global;
 use std::marker::Model;
-use sv_packet::{Event, encode};
-use sv_prim::{Buf, NoMemory};
+use sv_packet::{Event, spelled_len};
+use sv_prim::NoMemory;
 
 /// The scripts of the writers so far, and what is counted over their steps.
 #[derive(Drop)]
@@ -38,9 +38,7 @@ fn event_len(event: &Event) -> u64
     requires recordable { IsRecordable event.now }
     ensures { result ≡ length (spelling_of event.now 0) }
 {
-    let mut packet = Buf::new();
-    encode(event, 0, &mut packet);
-    packet.len() as u64
+    spelled_len(event) as u64
 }
 
 /// How many bytes of a stream a step needs at most.

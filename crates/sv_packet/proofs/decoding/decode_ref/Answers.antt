@@ -1,5 +1,5 @@
 use Rattle.std.proofs.Common.{refl, arith}
-use Rattle.sv_prim.proofs.Codes.{told_only}
+use Rattle.sv_prim.proofs.Shared.{told_only}
 use Rattle.sv_packet.specs.Packet.{IsPacket}
 use Rattle.sv_packet.specs.Reason.{packet_reason}
 use Rattle.sv_packet.specs.EventRef.{seen, got_seen}

@@ -1,5 +1,5 @@
 use Rattle.std.proofs.Common.{length, ap, arith}
-use Rattle.sv_prim.proofs.Below.{are_bytes}
+use Rattle.sv_prim.proofs.Shared.{are_bytes}
 use Rattle.sv_packet.proofs.Flats.{flat_few, text_few}
 use Rattle.sv_packet.proofs.Sizes.{plain_small, texted_small}
 use Rattle.sv_packet.proofs.flat.encode_flat.Goals as goal

@@ -1,6 +1,6 @@
 use Rattle.std.proofs.Common.{refl, sym, arith}
 use Rattle.std.proofs.lemmas.Bool.{eqb-true}
-use Rattle.sv_prim.proofs.Below.{are_bytes}
+use Rattle.sv_prim.proofs.Shared.{are_bytes}
 use Rattle.sv_packet.proofs.Shorts.{cut_short, breaks, is_not}
 use Rattle.sv_packet.proofs.reader.get_short.Goals as goal
 

@@ -1,4 +1,4 @@
-use Rattle.sv_prim.proofs.Below.{are_bytes}
+use Rattle.sv_prim.proofs.Shared.{are_bytes}
 use Rattle.sv_packet.proofs.reader.has.Goals as goal
 
 pub returns-clause-are : goal.returns-clause-are

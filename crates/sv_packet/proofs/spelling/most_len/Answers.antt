@@ -4,7 +4,7 @@ use Rattle.sv_packet.specs.Spelling.{payload_of, print_payload, IsValid}
 use Rattle.sv_prim.specs.Number.{numbers_spelling}
 use Rattle.sv_packet.proofs.Parts.{print_len}
 use Rattle.sv_packet.proofs.Sizes.{text_small, numbers_small}
-use Rattle.sv_prim.proofs.Spellings.{of_few}
+use Rattle.sv_prim.proofs.Shared.{of_few}
 use Rattle.sv_packet.proofs.spelling.most_len.Goals as goal
 
 pub returns-in-Print-clause-len : goal.returns-in-Print-clause-len

@@ -2,7 +2,7 @@ use Rattle.sv_packet.specs.Packet.{IsPacket}
 use Rattle.sv_packet.specs.Reason.{packet_reason}
 use Rattle.sv_stream.proofs.Existing.{reads_exists}
 use Rattle.sv_stream.proofs.Once.{reads_once}
-use Rattle.sv_packet.proofs.Totality.{packet_total}
+use Rattle.sv_packet.proofs.Shared.{packet_total}
 use Rattle.sv_stream.proofs.Packets.{readable}
 use Rattle.sv_stream.proofs.laws.read_once.Goals as goal
 

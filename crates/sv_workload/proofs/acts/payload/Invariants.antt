@@ -1,6 +1,6 @@
 use Rattle.std.proofs.Common.{◌≡◌, length, take}
 use Rattle.sv_prim.specs.Number.{numbers_spelling}
-use Rattle.sv_packet.proofs.Adding.{Counted}
+use Rattle.sv_packet.proofs.Shared.{Counted}
 use Rattle.sv_workload.proofs.acts.payload.Given as goal
 
 -- the first numbers are spelled

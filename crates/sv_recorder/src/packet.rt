@@ -55,18 +55,19 @@ fn form_reply(load: &Workload, kind: Kind, moment: u64, ticks: u32, block: &mut 
     }
 }
 
-/// The packet of an item at a moment, where the packet stored before it has the moment `last`.
+/// Forms the packet of an item at a moment, where the packet stored before it has the moment `last`,
+/// in place of what the block held.
 #[inline(always)]
 fn form(load: &Workload, origin: Origin, moment: u64, last: u64, block: &mut Buf)
     requires formed { IsFormed load.now origin }
     requires plain { IsPlain load.now }
     requires later { last ≤ moment }
-    requires empty { block.old.items ≡ [] }
     ensures block { block.new.items ≡ packet_block load.now origin moment last }
     ensures some { 0 < length block.new.items }
     ensures short { length block.new.items ≤ block_bytes load.now origin }
 {
     let ticks = delta(moment, last);
+    block.clear();
     match origin {
         Origin::Call { writer, step } => form_step(load, writer, step, ticks, block),
         Origin::Overflow { count } => encode(&Event::Overflow { count }, ticks, block),
@@ -97,7 +98,7 @@ impl<'w, U: UpWriter + Drop> Book<'w, U> {
 
     /// Records a packet while nothing is pending.
     #[inline(always)]
-    fn write_plain(&mut self, origin: Origin) -> Outcome
+    fn write_plain(&mut self, origin: Origin, block: &mut Buf) -> Outcome
         requires packet { HasPacket self.old.load.now origin }
         requires ready { IsReady 2 (packet_bytes self.old.load.now origin)
             self.old }
@@ -107,9 +108,8 @@ impl<'w, U: UpWriter + Drop> Book<'w, U> {
         ensures records { Records origin result self.old
             self.new }
     {
-        let mut block = Buf::new();
-        form(self.load, origin, self.moment, self.last, &mut block);
-        let stored = self.write(origin, &block);
+        form(self.load, origin, self.moment, self.last, block);
+        let stored = self.write(origin, block);
         self.settle(stored, self.last);
         outcome_of(stored)
     }
@@ -117,7 +117,7 @@ impl<'w, U: UpWriter + Drop> Book<'w, U> {
     /// Records a packet while packets are pending: after an overflow with their count, and refused
     /// with it where that is refused.
     #[inline(never)]
-    fn write_after_overflow(&mut self, origin: Origin) -> Outcome
+    fn write_after_overflow(&mut self, origin: Origin, block: &mut Buf) -> Outcome
         requires packet { HasPacket self.old.load.now origin }
         requires ready { IsReady 2 (packet_bytes self.old.load.now origin)
             self.old }
@@ -129,23 +129,21 @@ impl<'w, U: UpWriter + Drop> Book<'w, U> {
     {
         let count = self.pending;
         let overflow = Origin::Overflow { count };
-        let mut block = Buf::new();
-        form(self.load, overflow, self.moment, self.last, &mut block);
-        if !self.write(overflow, &block) {
+        form(self.load, overflow, self.moment, self.last, block);
+        if !self.write(overflow, block) {
             self.note(origin, Outcome::Refused);
             self.pending = count + 1;
             return Outcome::Refused;
         }
-        let mut block = Buf::new();
-        form(self.load, origin, self.moment, self.moment, &mut block);
-        let stored = self.write(origin, &block);
+        form(self.load, origin, self.moment, self.moment, block);
+        let stored = self.write(origin, block);
         self.settle(stored, self.moment);
         outcome_of(stored)
     }
 
-    /// Records a packet: ignores it while the recorder is off.
+    /// Records a packet, which is formed in the block: ignores it while the recorder is off.
     #[inline(always)]
-    pub fn packet(&mut self, origin: Origin) -> Outcome
+    pub fn packet(&mut self, origin: Origin, block: &mut Buf) -> Outcome
         requires packet { HasPacket self.old.load.now origin }
         requires ready { IsReady 2 (packet_bytes self.old.load.now origin)
             self.old }
@@ -159,9 +157,9 @@ impl<'w, U: UpWriter + Drop> Book<'w, U> {
             return Outcome::Ignored;
         }
         if self.pending > 0 {
-            self.write_after_overflow(origin)
+            self.write_after_overflow(origin, block)
         } else {
-            self.write_plain(origin)
+            self.write_plain(origin, block)
         }
     }
 }

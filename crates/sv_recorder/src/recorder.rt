@@ -17,7 +17,7 @@ use crate::book::Book;
 use crate::journal::Journal;
 use std::alloc::Global;
 use std::marker::Model;
-use sv_prim::NoMemory;
+use sv_prim::{Buf, NoMemory};
 use sv_ring::{PlainRing, UpWriter};
 use sv_workload::Workload;
 
@@ -30,6 +30,8 @@ use sv_workload::Workload;
 pub struct Recorder<'w, U: UpWriter + Drop> {
     book: Book<'w, U>,
     place: u32,
+    /// The packet that was formed last: the next one is formed in its place.
+    block: Buf,
 }
 
 impl<'w, U: UpWriter + Drop> Model for Recorder<'w, U> {
@@ -96,7 +98,11 @@ impl<'w, U: UpWriter + Drop> Recorder<'w, U> {
             last: 0,
             moment: 0,
         };
-        Ok(Recorder { book, place: 0 })
+        Ok(Recorder {
+            book,
+            place: 0,
+            block: Buf::new(),
+        })
     }
 
     /// What the type keeps: the journal is legal for its workload, the bytes sent are its stream,
@@ -177,7 +183,7 @@ impl<'w, U: UpWriter + Drop> Recorder<'w, U> {
         }
         let step = &steps[place as usize];
         self.book.advance(step.advance);
-        let answer = self.book.take(writer, place, step);
+        let answer = self.book.take(writer, place, step, &mut self.block);
         self.place = place + 1;
         Some(answer)
     }

@@ -11,6 +11,7 @@ ghost use Rattle.sv_recorder.specs.Clock.{clock_of, is_start_kind, reply_of};
 use crate::answer::Answer;
 use crate::book::Book;
 use crate::journal::{Kind, Origin, Outcome};
+use sv_prim::Buf;
 use sv_ring::UpWriter;
 use sv_workload::{Act, Step};
 
@@ -39,7 +40,7 @@ impl<'w, U: UpWriter + Drop> Book<'w, U> {
     }
 
     /// Records replies of these kinds, one after another.
-    fn replies(&mut self, kinds: &[Kind])
+    fn replies(&mut self, kinds: &[Kind], block: &mut Buf)
         requires kinds { list_all is_start_kind kinds.now ≡ true }
         requires ready { IsReady (2 * length kinds.now) (reply_bytes * length kinds.now)
             self.old }
@@ -52,15 +53,16 @@ impl<'w, U: UpWriter + Drop> Book<'w, U> {
             (reply_bytes * length kinds.now) self.old self.new }
     {
         for kind in kinds {
-            self.packet(Origin::Reply {
+            let reply = Origin::Reply {
                 kind: *kind,
                 index: 0,
-            });
+            };
+            self.packet(reply, block);
         }
     }
 
     /// A step that starts the recorder: the step, ten zeros, and what describes the target.
-    pub fn start(&mut self, writer: u32, step: u32)
+    pub fn start(&mut self, writer: u32, step: u32, block: &mut Buf)
         requires act { act_of self.old.load.now writer step ≡ Some acts.Start }
         requires ready { IsReady start_items start_bytes self.old }
         ensures kept { KeepsStep (Call writer step) self.old self.new }
@@ -70,16 +72,17 @@ impl<'w, U: UpWriter + Drop> Book<'w, U> {
         self.note(Origin::Call { writer, step }, Outcome::Handled);
         self.on = true;
         self.sync();
-        self.replies(&[
+        let kinds = [
             Kind::TraceStart,
             Kind::Init,
             Kind::Systime,
             Kind::ModuleCount,
-        ]);
+        ];
+        self.replies(&kinds, block);
     }
 
     /// A step that stops the recorder: the step, and the packet that says so.
-    pub fn stop(&mut self, writer: u32, step: u32)
+    pub fn stop(&mut self, writer: u32, step: u32, block: &mut Buf)
         requires act { act_of self.old.load.now writer step ≡ Some acts.Stop }
         requires ready { IsReady stop_items stop_bytes self.old }
         ensures kept { KeepsStep (Call writer step) self.old self.new }
@@ -87,16 +90,17 @@ impl<'w, U: UpWriter + Drop> Book<'w, U> {
             stop_bytes self.old self.new }
     {
         self.note(Origin::Call { writer, step }, Outcome::Handled);
-        self.packet(Origin::Reply {
+        let reply = Origin::Reply {
             kind: Kind::TraceStop,
             index: 0,
-        });
+        };
+        self.packet(reply, block);
         self.on = false;
     }
 
     /// A step that records an event.
     #[inline(always)]
-    fn event(&mut self, writer: u32, step: u32) -> Answer
+    fn event(&mut self, writer: u32, step: u32, block: &mut Buf) -> Answer
         requires formed { IsFormed self.old.load.now (Call writer step) }
         requires ready { IsReady 2
             (packet_bytes self.old.load.now (Call writer step)) self.old }
@@ -107,13 +111,13 @@ impl<'w, U: UpWriter + Drop> Book<'w, U> {
             × Gains self.old.journal.items self.new.journal.items (Call writer step) outcome
             × (result ≡ answer_of outcome) }
     {
-        let outcome = self.packet(Origin::Call { writer, step });
+        let outcome = self.packet(Origin::Call { writer, step }, block);
         Answer::of(outcome)
     }
 
     /// The next step of a writer's script, whose ticks have passed: it records what it says.
     #[inline(always)]
-    pub fn take(&mut self, writer: u32, place: u32, step: &Step) -> Answer
+    pub fn take(&mut self, writer: u32, place: u32, step: &Step, block: &mut Buf) -> Answer
         requires step { step_of self.old.load.now writer place ≡ Some step.now }
         requires act { IsStepAct step.now.act }
         requires ready { IsReady (step_items step.now) (step_bytes step.now) self.old }
@@ -124,13 +128,13 @@ impl<'w, U: UpWriter + Drop> Book<'w, U> {
             self.new.journal.items (Call writer place) result }
     {
         match &step.act {
-            Act::Event(_) => self.event(writer, place),
+            Act::Event(_) => self.event(writer, place, block),
             Act::Start => {
-                self.start(writer, place);
+                self.start(writer, place, block);
                 Answer::Ran
             }
             Act::Stop => {
-                self.stop(writer, place);
+                self.stop(writer, place, block);
                 Answer::Ran
             }
         }

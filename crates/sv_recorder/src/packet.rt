@@ -55,8 +55,8 @@ fn form_reply(load: &Workload, kind: Kind, moment: u64, ticks: u32, block: &mut 
     }
 }
 
-/// Forms the packet of an item at a moment, where the packet stored before it has the moment `last`,
-/// in place of what the block held.
+/// Forms the packet of an item at a moment, in place of what the block held. The packet stored
+/// before it has the moment `last`.
 #[inline(always)]
 fn form(load: &Workload, origin: Origin, moment: u64, last: u64, block: &mut Buf)
     requires formed { IsFormed load.now origin }

@@ -7,7 +7,7 @@ use Rattle.sv_cli.proofs.commands.check.CheckView.event.Goals as goal
 
 pub returns-clause-shown : goal.returns-clause-shown
 returns-clause-shown c = λ earlier is.
-    let event = seen_at c.args.time c.args.event.now in
+    let event = seen_at c.args.time c.args._event.now in
     let packets : c.args.self.now.packets + 1 ≡ length (earlier ++ event ∷ []) = omega
     (arith, ap (λ (k : Check). k.packets) is, length-append earlier (event ∷ [])) in
     ap (λ (n : ℕ). record { packets = n; time = event.time }) packets

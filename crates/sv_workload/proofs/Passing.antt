@@ -1,6 +1,7 @@
 -- A pass over the words of a line, one word for each range.
 use Rattle.std.proofs.Common.{◌≡◌, ℕ, ◌+◌, ◌<◌, Bool, ◌&&◌, List, [], ◌∷◌, ◌++◌, length, take}
-use Rattle.std.proofs.Common.{drop, get_or, map, refl, sym, ap, subst, ◌∙◌, append_assoc, append-nil}
+use Rattle.std.proofs.Common.{drop, get_or, map, refl, sym, ap, subst, ◌∙◌, append_assoc}
+use Rattle.std.proofs.Common.{append-nil}
 use Rattle.std.specs.List.{list_all}
 use Rattle.std.proofs.Math.Bool.{and_assoc, and-true}
 use Rattle.std.proofs.lemmas.List.{at_drop_more}
@@ -74,7 +75,8 @@ leaves (range ∷ ranges) (word ∷ words) values filled ranged =
           (map counts_as (take (length ranges) words));
       filled_is = rest.filled_is ∙ and_assoc filled (is_word word)
           (list_all is_word (take (length ranges) words));
-      ranged_is = rest.ranged_is ∙ and_assoc ranged (is_within range word) (are_within ranges words);
+      ranged_is = rest.ranged_is ∙ and_assoc ranged (is_within range word)
+          (are_within ranges words);
       words_are = rest.words_are;
     }
 

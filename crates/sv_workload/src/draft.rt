@@ -7,7 +7,7 @@ use crate::fault::LineFault;
 use crate::keyword::{ActWord, Keyword, SetupWord, TurnWord};
 use crate::limits::{MOST_STARTS, MOST_STEPS, MOST_TASKS, MOST_WRITERS};
 use crate::lines::is_remark;
-use crate::load::{Action, Need, Task, Workload};
+use crate::load::{Action, Need, Task};
 use crate::read_line::ReadLine;
 use crate::scripts::Scripts;
 use crate::settings::Settings;
@@ -66,27 +66,10 @@ impl Draft {
     }
 
     /// How many items and bytes a journal of the workload and its stream have at most.
-    fn need(&self) -> Need
+    pub fn need(&self) -> Need
         ensures { HasNeed (load_by self.now) result }
     {
         self.scripts.need(self.tasks.len() as u64)
-    }
-
-    /// The workload that was told.
-    pub fn into_workload(self, alloc: Global) -> Workload
-        ensures { result ≡ load_by self }
-    {
-        let need = self.need();
-        let writers = self.scripts.into_writers();
-        Workload::of(
-            alloc,
-            self.settings,
-            self.tasks,
-            writers,
-            self.scheduled,
-            self.schedule,
-            need,
-        )
     }
 }
 

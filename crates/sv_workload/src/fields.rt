@@ -33,7 +33,8 @@ pub struct Fields<'a> {
     pub ranged: bool,
 }
 
-/// The ticks that a word says, and whether so many may pass before a step. Without a word they are 0.
+/// The ticks that a word says, and whether so many may pass before a step. Without a word they
+/// are 0.
 #[inline(always)]
 fn ticks_of(word: Option<&[u8]>) -> (u64, bool)
     ensures ticks { result.0 ≡ min (unwrap_or

@@ -1,12 +1,12 @@
 //! Workloads and their parts.
-ghost use Rattle.std.specs.Prelude.{◌≡◌, ◌<◌, ◌≤◌, All, length, map};
+ghost use Rattle.std.specs.Prelude.{◌≡◌, ◌<◌, ◌≤◌, All, length};
 ghost use Rattle.sv_workload.specs.Load.{script_of};
-ghost use Rattle.sv_workload.specs.Need.{need_items, need_bytes, IsWithinLimits, HasNeed};
+ghost use Rattle.sv_workload.specs.Need.{need_items, need_bytes, IsWithinLimits};
 ghost use Rattle.sv_workload.specs.Need.{IsStepAct, IsTask, HasWords, IsAsked, IsTurn};
 ghost use Rattle.sv_workload.specs.Draft.{load_by};
 ghost use Rattle.sv_workload.specs.Limits.{most_steps, most_ticks};
 
-use crate::settings::Settings;
+use crate::draft::Draft;
 use std::alloc::Global;
 use std::marker::Model;
 use sv_packet::Event;
@@ -138,31 +138,13 @@ impl Model for Workload {
 }
 
 impl Workload {
-    /// A workload of all that can be told by now: no lines, modules or commands.
-    pub fn of(
-        alloc: Global,
-        settings: Settings,
-        tasks: Vec<Task>,
-        writers: Vec<Vec<Step>>,
-        scheduled: bool,
-        schedule: Vec<Action>,
-        need: Need,
-    ) -> Workload
-        requires { HasNeed (load_by (record {
-          settings = settings;
-          tasks = tasks.items;
-          scripts = map (λ script. script.items) writers.items;
-          scheduled = scheduled;
-          schedule = schedule.items;
-        })) need }
-        ensures { result ≡ load_by (record {
-          settings = settings;
-          tasks = tasks.items;
-          scripts = map (λ script. script.items) writers.items;
-          scheduled = scheduled;
-          schedule = schedule.items;
-        }) }
+    /// The workload that a draft told: by now without lines, modules and commands.
+    pub fn of(alloc: Global, draft: Draft) -> Workload
+        ensures { result ≡ load_by draft }
     {
+        let need = draft.need();
+        let settings = draft.settings;
+        let writers = draft.scripts.into_writers();
         Workload {
             ring: settings.ring(),
             clock: settings.clock(),
@@ -171,12 +153,12 @@ impl Workload {
             shift: settings.shift(),
             timed: false,
             lines: Vec::new(alloc),
-            tasks,
+            tasks: draft.tasks,
             modules: Vec::new(alloc),
             commands: Vec::new(alloc),
             writers,
-            scheduled,
-            schedule,
+            scheduled: draft.scheduled,
+            schedule: draft.schedule,
             need,
         }
     }

@@ -1,5 +1,6 @@
 //! A line that was read.
-ghost use Rattle.std.specs.Prelude.{◌≡◌, ◌-◌, ◌^◌, List, map, min, option_and_then, unwrap_or, false};
+ghost use Rattle.std.specs.Prelude.{◌≡◌, ◌-◌, ◌^◌, List, map, min, option_and_then, unwrap_or};
+ghost use Rattle.std.specs.Prelude.{false};
 ghost use Rattle.sv_workload.specs.Forms.{form_of};
 ghost use Rattle.sv_workload.specs.Line.{Line, line_of, numbers_of, text_of};
 ghost use Rattle.sv_workload.specs.Meaning.{number, says};

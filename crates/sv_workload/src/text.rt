@@ -35,5 +35,5 @@ pub fn parse(alloc: Global, text: &[u8]) -> Result<Workload, WorkFault>
         }
         rest = behind;
     }
-    Ok(draft.into_workload(alloc))
+    Ok(Workload::of(alloc, draft))
 }

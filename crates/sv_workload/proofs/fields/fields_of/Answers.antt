@@ -23,7 +23,8 @@ form_in c = record {
 }
 
 -- the first pass, and then the second
-first_is : (c : goal.After-ends_well-ended) → the_state c.of-numbers.result.values.items c.of-numbers.result.filled c.of-numbers.result.ranged c.of-numbers.new.words ≡
+first_is : (c : goal.After-ends_well-ended) → the_state c.of-numbers.result.values.items
+    c.of-numbers.result.filled c.of-numbers.result.ranged c.of-numbers.new.words ≡
     the_state (map counts_as (take (length (form_in c).numbers) c.again-words.result))
     (list_all is_word (take (length (form_in c).numbers) c.again-words.result))
     (are_within (form_in c).numbers c.again-words.result)

@@ -38,4 +38,4 @@ returns-clause-ok c =
     let end = walk_ends c.args.text.now c.loop-rest.rest.now c.loop-rest.draft c.loop-rest.number
     c.loop-rest.invariant (nil_from_length c.loop-rest.rest.now
     (eqb-true _ _ (sym c.loop-rest-test.ensures))) in
-    record { good = end.0; meaning = c.into_workload.ensures ∙ end.1 }
+    record { good = end.0; meaning = c.of.ensures ∙ end.1 }

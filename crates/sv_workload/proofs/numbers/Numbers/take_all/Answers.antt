@@ -10,7 +10,8 @@ stopped : (c : goal.In_default) → Leaves (record {
   filled = c.loop-range.self.filled;
   ranged = c.loop-range.self.ranged;
   words = c.loop-range.words;
-}) c.args.ranges.now c.args.words.now c.args.self.now.values.items c.args.self.now.filled c.args.self.now.ranged
+}) c.args.ranges.now c.args.words.now c.args.self.now.values.items c.args.self.now.filled
+    c.args.self.now.ranged
 stopped c =
     ended _ _ _ _ _ _ (drop c.loop-range.range-index c.args.ranges.now)
     (c.in_default.ensures.none.0) c.loop-range.invariant.0
@@ -21,7 +22,8 @@ finished : (c : goal.After-loop-range) → Leaves (record {
   filled = c.loop-range.self.filled;
   ranged = c.loop-range.self.ranged;
   words = c.loop-range.words;
-}) c.args.ranges.now c.args.words.now c.args.self.now.values.items c.args.self.now.filled c.args.self.now.ranged
+}) c.args.ranges.now c.args.words.now c.args.self.now.values.items c.args.self.now.filled
+    c.args.self.now.ranged
 finished c =
     let ranges = c.args.ranges.now in
     let all : length ranges ≤ c.loop-range.range-index = omega (arith, c.loop-range-test.false) in

@@ -92,7 +92,10 @@ filled_further a b c buf piece filled size count p q within few =
     subst (Consumes a c) (sym front) (Consumes-then a b c (take filled buf) (take count piece) p q)
 
 -- a read of a file that was begun, or of none, copies a front of what is left
-pub read_begun : (E : Type 0) (begun : Bool) (bytes rest copied tail : List ℕ) (at count size : ℕ) → rest ≡ drop at bytes → copied ≡ take count rest → count ≡ min (length rest) size → 0 < size
-    → ReadConsumes {E = E} (if begun then Some (drop at bytes) else None) (if begun then Some (drop (at + count) bytes) else None) (Ok count) (copied ++ tail)
-read_begun E true bytes rest copied tail at count size left copy least some = read_moves bytes rest copied tail at count size left copy least some
+pub read_begun : (E : Type 0) (begun : Bool) (bytes rest copied tail : List ℕ) (at count size : ℕ) →
+    rest ≡ drop at bytes → copied ≡ take count rest → count ≡ min (length rest) size → 0 < size
+    → ReadConsumes {E = E} (if begun then Some (drop at bytes) else None)
+    (if begun then Some (drop (at + count) bytes) else None) (Ok count) (copied ++ tail)
+read_begun E true bytes rest copied tail at count size left copy least some =
+    read_moves bytes rest copied tail at count size left copy least some
 read_begun E false bytes rest copied tail at count size left copy least some = (tt, λ none room. tt)

@@ -41,7 +41,8 @@ module _ {V : Type 0} (text : Text) (shown : V → List TimedEvent → Type 0) w
       → HasGiven text shown old new before now lines_before lines (events ++ event ∷ [])
   given-more old mid new before between now lines_before lines_between lines events event g stands
       viewed line fewer same = record {
-        stands = λ input given s. subst (StandsFor new input) (append_assoc given events (event ∷ []))
+        stands =
+            λ input given s. subst (StandsFor new input) (append_assoc given events (event ∷ []))
             (stands input (given ++ events) (g.stands input given s));
         viewed = λ given s. subst (shown now) (append_assoc given events (event ∷ []))
             (viewed (given ++ events) (g.viewed given s));
@@ -50,7 +51,8 @@ module _ {V : Type 0} (text : Text) (shown : V → List TimedEvent → Type 0) w
             ∙ ap (λ (ls : List ℕ). ls ++ text.line (given ++ events) event) (g.gathered given s)
             ∙ append_assoc lines_before (lines_after text given events)
             (text.line (given ++ events) event)
-            ∙ ap (λ (ls : List ℕ). lines_before ++ ls) (sym (lines_after-push text given events event));
+            ∙ ap (λ (ls : List ℕ). lines_before ++ ls)
+            (sym (lines_after-push text given events event));
         held = omega (arith, g.held, fewer, length-append events (event ∷ []));
         pushed_same = same ∙ g.pushed_same;
       }
@@ -140,7 +142,8 @@ pub fed_by : (left_before left : Option (List ℕ)) (old new : Decoding) (total 
     → OnOk pushing (pushed new ≡ pushed old + length piece) → OnOk pushing
     (length new.held ≤ length old.held + length piece)
     → (count < length buf → IsAtEnd left) → IsFed left_before left old new total count buf
-fed_by left_before left old new total count buf piece front bytes few within read pushing ok stands more held ended =
+fed_by left_before left old new total count buf piece front bytes few within read pushing ok stands
+    more held ended =
     let long : length piece ≡ count = omega (arith, ap length front, length-take count buf, few) in
     record {
       few = few;

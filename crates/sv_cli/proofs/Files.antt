@@ -24,7 +24,8 @@ use Rattle.sv_cli.specs.Scan.{status_for, IsScanEnd}
 use Rattle.sv_cli.specs.Text.{Text, lines_of, whole_text}
 
 -- an answer stands, whatever says that no bytes are left
-module _ (text : Text) (taken : List ℕ) (all every : Type 0) (old new : Option (List ℕ)) (then : all → every) where
+module _ (text : Text) (taken : List ℕ) (all every : Type 0) (old new : Option (List ℕ))
+    (then : all → every) where
   through : (end : End) → all ⊎ IsDamaged end → every ⊎ IsDamaged end
   through end (inl a) = inl (then a)
   through end (inr damaged) = inr damaged

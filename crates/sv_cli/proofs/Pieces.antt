@@ -38,7 +38,8 @@ by_end text taken front all old new (ends.Truncated held) whole = whole
 by_end text taken front all old new ends.NoSync whole = whole
 by_end text taken front all old new (ends.Damaged place reason) whole = (reason, refl, whole)
 
-module _ {V : Type 0} (text : Text) (shown : V → List TimedEvent → Type 0) (left0 out0 : Option (List ℕ)) where
+module _ {V : Type 0} (text : Text) (shown : V → List TimedEvent → Type 0)
+    (left0 out0 : Option (List ℕ)) where
   -- BETWEEN TWO PIECES
 
   module _ (left out : Option (List ℕ)) (scan : Scan V)

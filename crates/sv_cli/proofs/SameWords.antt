@@ -47,7 +47,8 @@ Means (Some (suc (suc n))) file taken old new items status =
     IsRecorded file taken old new items status
 Means None file taken old new items status = ⊥
 
-module _ (file taken : List ℕ) (old new : Option (List ℕ)) (items : List Item) (status : Status) where
+module _ (file taken : List ℕ) (old new : Option (List ℕ)) (items : List Item)
+    (status : Status) where
   means : (c : Command) → AnswersTo c file taken old new items status → Means (place c) file taken
       old new items status
   means (Events name) a = a
@@ -105,7 +106,8 @@ pub answered_as : (a b : Command) (held : List ℕ → Option (List ℕ))
     → OfFile (held (file_of a)) left (λ file taken. AnswersTo a file taken old new items status)
     → OfFile (held (file_of b)) left_now
     (λ file taken. AnswersTo b file taken old new_now items_now status_now)
-answered_as a b held left left_now old new new_now items items_now status status_now words source sink journal is o =
+answered_as a b held left left_now old new new_now items items_now status status_now words source
+    sink journal is o =
     record {
       file = o.file;
       taken = o.taken;
@@ -114,11 +116,13 @@ answered_as a b held left left_now old new new_now items items_now status status
           (same_file a b words) o.known;
       front = o.front;
       read = subst (λ (l : Option (List ℕ)). HasTaken (held (file_of b)) l o.taken) (sym source)
-          (subst (λ (name : List ℕ). HasTaken (held name) left o.taken) (same_file a b words) o.read);
+          (subst (λ (name : List ℕ). HasTaken (held name) left o.taken) (same_file a b words)
+          o.read);
       so =
           same_answer o.file o.taken old new_now items_now status_now a b words
           (subst (λ (s : Status). AnswersTo a o.file o.taken old new_now items_now s) (sym is)
-          (subst (λ (is : List Item). AnswersTo a o.file o.taken old new_now is status) (sym journal)
+          (subst (λ (is : List Item). AnswersTo a o.file o.taken old new_now is status)
+          (sym journal)
           (subst (λ (n : Option (List ℕ)). AnswersTo a o.file o.taken old n items status) (sym sink)
           o.so)));
     }

@@ -16,8 +16,8 @@ pub trait View {
     /// It was shown these events, one after another.
     ghost shown: { Self → List Timed → Type 0 };
 
-    /// Takes the next event, at its time in ticks, and appends what is written of it. NoMemory leaves
-    /// the lines open.
+    /// Takes the next event, at its time in ticks, and appends what is written of it. NoMemory
+    /// leaves the lines open.
     fn event(
         &mut self,
         time: u64,

@@ -81,7 +81,8 @@ pub not_twice : (load : Load) (earlier later : List Item) (i : Item)
     → has_command later ≡ false
 not_twice load earlier later i each command =
     not_again load (i ∷ earlier) later each (at i.origin refl command) where
-      at : (o : Origin) → i.origin ≡ o → is_command o ≡ true → is_after_call_group (i ∷ earlier) ≡ false
+      at : (o : Origin) → i.origin ≡ o → is_command o ≡ true →
+          is_after_call_group (i ∷ earlier) ≡ false
       at (Command byte param) e h = rw e refl
       at (Call writer step) e h = cc
       at Sync e h = cc

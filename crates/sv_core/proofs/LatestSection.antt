@@ -34,7 +34,8 @@ section_start (i ∷ earlier) = if is_call i.origin then earlier else section_st
 abbrev pub calls_in : List Item → ℕ
 calls_in items = count_by (λ i. is_call i.origin) items
 
--- an item of a section that began when the host had read everything; an overflow's is told by the item after it
+-- an item of a section that began when the host had read everything; an overflow's is told by the
+-- item after it
 pub record IsFresh (load : Load) (earlier : List Item) (item : Item) : Type 0 where
   pub behind : overflow_freed earlier item.freed ≡ item.freed
   pub called : is_overflow item.origin ≡ false → 0 < count_by (λ i. is_call i.origin)
@@ -73,7 +74,8 @@ start_is j (x ∷ xs) h =
       | false ↦ λ call.
           let same : calls_in xs ≡ suc j = omega
           (arith, calls-cons x xs ∙ ap (λ b. cond b 1 0 + calls_in xs) call) in
-          before_number-more (λ (i : Item). is_call i.origin) j x xs (omega (arith, h)) ∙ start_is j xs
+          before_number-more (λ (i : Item). is_call i.origin) j x xs (omega (arith, h))
+          ∙ start_is j xs
           same
     ] refl
 
@@ -146,7 +148,8 @@ pub has_command-push : (items : List Item) (i : Item) → is_command i.origin �
 has_command-push [] i h =
     ap (list_any (λ (j : Item). is_command j.origin))
     (take_while-cons (λ (j : Item). not (is_call j.origin)) i []) ∙ at (is_call i.origin) where
-      at : (b : Bool) → list_any (λ (j : Item). is_command j.origin) (cond (not b) (i ∷ []) []) ≡ false
+      at : (b : Bool) →
+          list_any (λ (j : Item). is_command j.origin) (cond (not b) (i ∷ []) []) ≡ false
       at true = refl
       at false = ap (λ b. b || false) h
 has_command-push (x ∷ items) i h =

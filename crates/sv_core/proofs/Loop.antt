@@ -76,7 +76,8 @@ between-none recorder none still legal stream freed =
     }
 
 -- a step, and then everything is read
-module _ (load : Load) (before stepped after : Recording) (b : IsBetween load before) (same : stepped.load ≡ before.load)
+module _ (load : Load) (before stepped after : Recording) (b : IsBetween load before)
+    (same : stepped.load ≡ before.load)
     (s : IsSection before.items stepped.items 0 None)
     (all : All (λ i. i.freed ≡ before.freed) s.more) (still : stepped.way ≡ Still)
     (read : after ≡ record stepped { freed = length stepped.sent })

@@ -184,7 +184,8 @@ before_number-le : {X : Type 0} (p : X → Bool) (number : ℕ) (xs : List X)
 before_number-le p number [] = omega arith
 before_number-le p number (x ∷ xs) =
     at (nat_lt number (count_by p (x ∷ xs))) refl (before_number-le p number xs) where
-      at : (b : Bool) → nat_lt number (count_by p (x ∷ xs)) ≡ b → count_by p (before_number p number xs)
+      at : (b : Bool) → nat_lt number (count_by p (x ∷ xs)) ≡ b →
+          count_by p (before_number p number xs)
           ≤ number → count_by p (cond b (before_number p number xs) (x ∷ xs)) ≤ number
       at true e earlier = earlier
       at false e earlier = search (rules, e)
@@ -316,7 +317,8 @@ same_overflow : (load : Load) (turns : List Turn) (a b earlier : List Item) (i j
     IsNextItem load (p ∷ earlier) j
     → IsTakenItem load turns a (o ∷ earlier) i → IsTakenItem load turns b (p ∷ earlier) j
     → i.moment ≡ j.moment → i.freed ≡ j.freed → o ≡ p
-same_overflow load turns a b earlier i j o p e f next_o next_p next_i next_j taken_i taken_j moment freed =
+same_overflow load turns a b earlier i j o p e f next_o next_p next_i next_j taken_i taken_j moment
+    freed =
     same_next load earlier o p next_o next_p
     (overflow_is earlier o.origin e next_o.count ∙ sym
     (overflow_is earlier p.origin f next_p.count))
@@ -327,18 +329,22 @@ same_overflow load turns a b earlier i j o p e f next_o next_p next_i next_j tak
     (taken_i.overflow_freed ∙
     (freed ∙ sym (sym (ap (λ b. cond b p.freed j.freed) f) ∙ taken_j.overflow_freed))))
 
--- what stands before two items of one moment and freed, where each has an overflow before it or neither
+-- what stands before two items of one moment and freed, where each has an overflow before it or
+-- neither
 same_earlier : (load : Load) (turns : List Turn) (a b xs ys : List Item) (i j : Item)
     → before_overflow xs ≡ before_overflow ys → is_after_overflow xs ≡ is_after_overflow ys
     → EachItem (IsNextItem load) (i ∷ xs) → EachItem (IsNextItem load) (j ∷ ys) → IsTakenItem load
     turns a xs i → IsTakenItem load turns b ys j → i.moment ≡ j.moment → i.freed ≡ j.freed → xs
     ≡ ys
 same_earlier load turns a b [] [] i j before after next_i next_j taken_i taken_j moment freed = refl
-same_earlier load turns a b [] (p ∷ ys) i j before after next_i next_j taken_i taken_j moment freed =
+same_earlier load turns a b [] (p ∷ ys) i j before after next_i next_j taken_i taken_j moment
+    freed =
     before ∙ alone (p ∷ ys) (sym after)
-same_earlier load turns a b (o ∷ xs) [] i j before after next_i next_j taken_i taken_j moment freed =
+same_earlier load turns a b (o ∷ xs) [] i j before after next_i next_j taken_i taken_j moment
+    freed =
     sym (alone (o ∷ xs) after) ∙ before
-same_earlier load turns a b (o ∷ xs) (p ∷ ys) i j before after next_i next_j taken_i taken_j moment freed =
+same_earlier load turns a b (o ∷ xs) (p ∷ ys) i j before after next_i next_j taken_i taken_j moment
+    freed =
     at (is_overflow o.origin) refl where
       at : (c : Bool) → is_overflow o.origin ≡ c → o ∷ xs ≡ p ∷ ys
       at true e =
@@ -358,7 +364,8 @@ same_latest : (load : Load) (turns : List Turn) (a b later_a later_b xs ys : Lis
     → IsFront load turns a later_a (i ∷ xs) → IsFront load turns b later_b (j ∷ ys)
     → is_after_overflow (before_overflow xs) ≡ false → before_overflow xs ≡ before_overflow ys →
     i.origin ≡ j.origin → 0 < calls_in (i ∷ xs) → i ∷ xs ≡ j ∷ ys
-same_latest load turns a b later_a later_b xs ys i j front_a front_b alone_before before origin some =
+same_latest load turns a b later_a later_b xs ys i j front_a front_b alone_before before origin
+    some =
     let next_i : IsNextItem load xs i = front_a.next.1 in
     let next_j : IsNextItem load ys j = front_b.next.1 in
     let taken_i : IsTakenItem load turns a xs i = front_a.taken.1 in
@@ -419,7 +426,8 @@ same_fronts load turns a b [] later_a later_b xs ys last front_a front_b of_a of
     front_none xs front_a.ends of_a ∙ sym (front_none ys front_b.ends of_b)
 same_fronts load turns a b (o ∷ os) later_a later_b [] ys last front_a front_b of_a of_b = cc
 same_fronts load turns a b (o ∷ os) later_a later_b (i ∷ xs) [] last front_a front_b of_a of_b = cc
-same_fronts load turns a b (o ∷ os) later_a later_b (i ∷ xs) (j ∷ ys) last front_a front_b of_a of_b =
+same_fronts load turns a b (o ∷ os) later_a later_b (i ∷ xs) (j ∷ ys) last front_a front_b of_a
+    of_b =
     let shape_a : i.origin ∷ origins_of xs ≡ o ∷ os = sym (origins_of-cons i xs front_a.ends) ∙ of_a
     in
     let shape_b : j.origin ∷ origins_of ys ≡ o ∷ os = sym (origins_of-cons j ys front_b.ends) ∙ of_b

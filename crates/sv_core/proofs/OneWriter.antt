@@ -1,4 +1,5 @@
--- Runs of one writer with no schedule and no commands: a section for each step, and the host reads everything after each.
+-- Runs of one writer with no schedule and no commands: a section for each step, and the host reads
+-- everything after each.
 use Rattle.std.proofs.Common.{◌≡◌, ℕ, zero, suc, ◌+◌, ◌-◌, ◌<◌, ◌≤◌, Bool, true, false, not, ◌&&◌}
 use Rattle.std.proofs.Common.{cond, None, List, [], ◌∷◌, ◌++◌, length, reverse, map, filter, All}
 use Rattle.std.proofs.Common.{flat_map, refl, sym, ap, ◌∙◌, subst, arith, append_assoc, append-nil}
@@ -227,7 +228,8 @@ section_more load before (c ∷ []) done step u old new heads all =
       at false e = call_more load before [] c done step (length (stream_of load before))
           (answers_of load (Call 0 step) ++ []) u
           (ap (stored_before load) (alone (latest_first before) old.ends))
-          (unmoved (latest_first before) (length (stream_of load before)) old.ends) e group heads all
+          (unmoved (latest_first before) (length (stream_of load before)) old.ends) e group heads
+          all
 section_more load before (c ∷ d ∷ rest) done step u old new heads all =
     at (is_overflow c.origin) (is_overflow d.origin) refl refl where
       group : origins_of (c ∷ d ∷ rest) ≡ Call 0 step ∷ (answers_of load (Call 0 step) ++ [])
@@ -238,7 +240,8 @@ section_more load before (c ∷ d ∷ rest) done step u old new heads all =
       at false f e g = call_more load before (d ∷ rest) c done step (length (stream_of load before))
           (answers_of load (Call 0 step) ++ []) u
           (ap (stored_before load) (alone (latest_first before) old.ends))
-          (unmoved (latest_first before) (length (stream_of load before)) old.ends) e group heads all
+          (unmoved (latest_first before) (length (stream_of load before)) old.ends) e group heads
+          all
       at true true e g = absurd (not_two load before c d e g
           (next_is load (before ++ c ∷ []) rest d
           (subst (λ is. EachItem (IsNextItem load) (latest_first is))
@@ -256,7 +259,8 @@ section_more load before (c ∷ d ∷ rest) done step u old new heads all =
           } in
           let from : stored_before load (before_overflow (latest_first (before ++ c ∷ []))) ≡ length
           (stream_of load before) =
-          ap (λ (is : List Item). stored_before load (before_overflow is)) (latest_first-push before c)
+          ap (λ (is : List Item). stored_before load (before_overflow is))
+          (latest_first-push before c)
           ∙ ap (λ b. stored_before load (cond b (latest_first before) (c ∷ latest_first before))) e
           in
           subst (λ is. IsUnderWay load is (done + 1)) (append_assoc before (c ∷ []) (d ∷ rest))
@@ -434,7 +438,8 @@ pub under_way-kept : (load : Load) (before after : List Item) (sent sent_after :
     on_after pending_after last_after
     → (s : IsSection before after 0 None) → freed ≡ length sent → All (λ i. i.freed ≡ freed) s.more
     → IsUnderWay load after (done + 1)
-under_way-kept load before after sent sent_after freed freed_after done on on_after pending pending_after last last_after u old new s read all =
+under_way-kept load before after sent sent_after freed freed_after done on on_after pending
+    pending_after last last_after u old new s read all =
     under_way-more load before after done freed u (IsLegal-open load before old.opened)
     (IsLegal-open load after new.opened) s (read ∙ ap length old.sent_is) all
 

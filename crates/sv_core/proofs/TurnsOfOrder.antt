@@ -34,7 +34,8 @@ before_call number items = before_number (λ i. is_call i.origin) number items
 
 -- THE COMMANDS BEFORE A CALL
 
--- before the call after these turns stand the commands of these turns, and those ahead of the first call
+-- before the call after these turns stand the commands of these turns, and those ahead of the first
+-- call
 abbrev AreCounted : List Item → List Item → Type 0
 AreCounted earlier later =
     (turns more : List StepTurn) (t : StepTurn) → step_turns later ≡ turns ++ (t ∷ more)
@@ -228,7 +229,8 @@ ordered-length load items (Takes_step writer ∷ earlier) =
     let t : StepTurn = record {
       writer = writer;
       command = nat_lt
-          (commands_of (before_section items (count_by is_step earlier))) (count_by is_send earlier);
+          (commands_of (before_section items (count_by is_step earlier)))
+          (count_by is_send earlier);
     }
     in
     let longer : length (ordered_turns load items earlier ++ t ∷ []) ≡ length
@@ -256,7 +258,8 @@ commands_ordered load items later earlier writer each e =
     let t : StepTurn = record {
       writer = writer;
       command = nat_lt
-          (commands_of (before_section items (count_by is_step earlier))) (count_by is_send earlier);
+          (commands_of (before_section items (count_by is_step earlier)))
+          (count_by is_send earlier);
     }
     in
     let more = ordered-append load items later (Takes_step writer ∷ earlier) in

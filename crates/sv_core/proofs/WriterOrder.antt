@@ -161,15 +161,18 @@ before_back (suc j) zero h = absurd (omega (arith, h))
 before_back j (suc n) h =
     elim (cases_order j (suc n)) as
     (λ w. before_number is_step j (turns_back (suc n)) ≡ turns_back j) [
-      | inl same ↦ before_number-all is_step j (turns_back (suc n)) (omega (arith, steps_back (suc n)))
+      | inl same ↦
+          before_number-all is_step j (turns_back (suc n)) (omega (arith, steps_back (suc n)))
           ∙ ap turns_back (sym same)
       | inr (inl below) ↦
           let few : j ≤ n = omega arith in
-          let first : j < count_by is_step (turns_back (suc n)) = omega (arith, steps_back (suc n)) in
+          let first : j < count_by is_step (turns_back (suc n)) =
+          omega (arith, steps_back (suc n)) in
           let second : j < count_by is_step (Takes_step 0 ∷ turns_back n) = omega
           (arith, count-cons is_step (Takes_step 0) (turns_back n), steps_back n) in
           before_number-more is_step j Reads_all (Takes_step 0 ∷ turns_back n) first
-          ∙ (before_number-more is_step j (Takes_step 0) (turns_back n) second ∙ before_back j n few)
+          ∙ (before_number-more is_step j (Takes_step 0) (turns_back n) second
+          ∙ before_back j n few)
       | inr (inr above) ↦ absurd (omega arith)
     ]
 
@@ -187,7 +190,8 @@ before_order load script j order h =
     ∙ (before_number-more is_step j Reads_all (turns_back (length script)) more ∙ before_back j
     (length script) (omega arith))
 
--- what the host took before a step: nothing before the first, and then all that the sections so far stored
+-- what the host took before a step: nothing before the first, and then all that the sections so far
+-- stored
 pub taken_first : (load : Load) (items : List Item) → taken_in load items (turns_back 0) ≡ 0
 taken_first load items = refl
 

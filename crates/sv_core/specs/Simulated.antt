@@ -71,7 +71,8 @@ abbrev pub overflow_freed : List Item → ℕ → ℕ
 overflow_freed [] freed = freed
 overflow_freed (i ∷ earlier) freed = if is_overflow i.origin then i.freed else freed
 
-pub record IsTakenItem (load : Load) (turns : List Turn) (items earlier : List Item) (item : Item) : Type 0 where
+pub record IsTakenItem (load : Load) (turns : List Turn) (items earlier : List Item) (item : Item) :
+    Type 0 where
   pub taken : IsTaken load turns items earlier item item.origin
   pub overflow_freed : overflow_freed earlier item.freed ≡ item.freed
 

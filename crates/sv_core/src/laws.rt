@@ -7,5 +7,6 @@ ghost use Rattle.sv_core.specs.Simulated.{IsSimulated};
 /// workload alone fixes every item: its place and origin, its moment, what became of it and how
 /// many bytes the host had taken. The stream that `record` writes is that journal's.
 pub fn simulated_once()
-    ensures journal { (load : Load) (a b : List Item) → IsSimulated load a → IsSimulated load b → a ≡ b }
+    ensures journal { (load : Load) (a b : List Item) → IsSimulated load a → IsSimulated load b →
+        a ≡ b }
 {}

@@ -12,40 +12,72 @@ use Rattle.sv_packet.specs.declared.reader.Stop.TheVariants.{Short, Bad}
 use Rattle.sv_packet.specs.Reader.{left, Takes, Stops}
 
 -- what is left behind a spelling
-pub left_behind : {V : Type 0} (S : V → List ℕ → Type 0) (old mid : Reader) (value : V) (t : Takes S old mid value) → drop t.used (left old) ≡ left mid
-left_behind S old mid value t = drop-drop t.used old.at old.bytes.now ∙ ap (λ (k : ℕ). drop k old.bytes.now) (sym t.further) ∙ ap (λ (b : List ℕ). drop mid.at b) (sym t.same)
+pub left_behind :
+    {V : Type 0} (S : V → List ℕ → Type 0) (old mid : Reader) (value : V)
+    (t : Takes S old mid value) → drop t.used (left old) ≡ left mid
+left_behind S old mid value t =
+    drop-drop t.used old.at old.bytes.now ∙ ap (λ (k : ℕ). drop k old.bytes.now) (sym t.further)
+    ∙ ap (λ (b : List ℕ). drop mid.at b) (sym t.same)
 
-module _ {A B : Type 0} (S : A → List ℕ → Type 0) (T : A → B → List ℕ → Type 0) (free : IsPrefixFree S) (some : (a : A) (front : List ℕ) → S a front → (b : B) × (text : List ℕ) × T a b text) where
-  pub takes_both : (old mid new : Reader) (a : A) (b : B) → Takes S old mid a → Takes (T a) mid new b → Takes (IsPair S T) old new (a, b)
+module _ {A B : Type 0} (S : A → List ℕ → Type 0) (T : A → B → List ℕ → Type 0)
+    (free : IsPrefixFree S)
+    (some : (a : A) (front : List ℕ) → S a front → (b : B) × (text : List ℕ) × T a b text) where
+  pub takes_both : (old mid new : Reader) (a : A) (b : B) → Takes S old mid a →
+      Takes (T a) mid new b → Takes (IsPair S T) old new (a, b)
   takes_both old mid new a b t u = record {
     used = t.used + u.used;
     same = u.same ∙ t.same;
     further = omega (arith, t.further, u.further);
-    spelled = pair_begins S T free some (left old) a b t.used u.used t.spelled (subst (λ (x : List ℕ). Begins (T a) x b u.used) (sym (left_behind S old mid a t)) u.spelled);
+    spelled =
+        pair_begins S T free some (left old) a b t.used u.used t.spelled
+        (subst (λ (x : List ℕ). Begins (T a) x b u.used) (sym (left_behind S old mid a t))
+        u.spelled);
   }
 
   module _ (why : List ℕ → Reason → Type 0) (next : A → List ℕ → Reason → Type 0) where
-    pub stops_first : (old : Reader) (stop : Stop) → Stops S why old stop → Stops (IsPair S T) (PairReason S why next) old stop
+    pub stops_first : (old : Reader) (stop : Stop) → Stops S why old stop →
+        Stops (IsPair S T) (PairReason S why next) old stop
     stops_first old Short p = pair_short_first S T free some (left old) p
-    stops_first old (Bad place reason) (ahead, is_place, p, is_why) = (ahead, is_place, pair_breaks_first S T free some (left old) ahead p, inl (p.before, is_why))
+    stops_first old (Bad place reason) (ahead, is_place, p, is_why) = (
+      ahead,
+      is_place,
+      pair_breaks_first S T free some (left old) ahead p,
+      inl (p.before, is_why),
+    )
 
-    pub stops_second : (old mid : Reader) (a : A) (stop : Stop) → Takes S old mid a → Stops (T a) (next a) mid stop → Stops (IsPair S T) (PairReason S why next) old stop
-    stops_second old mid a Short t p = pair_short_second S T free some (left old) a t.used t.spelled (subst (IsCutShort (T a)) (sym (left_behind S old mid a t)) p)
+    pub stops_second : (old mid : Reader) (a : A) (stop : Stop) → Takes S old mid a →
+        Stops (T a) (next a) mid stop → Stops (IsPair S T) (PairReason S why next) old stop
+    stops_second old mid a Short t p =
+        pair_short_second S T free some (left old) a t.used t.spelled
+        (subst (IsCutShort (T a)) (sym (left_behind S old mid a t)) p)
     stops_second old mid a (Bad place reason) t (ahead, is_place, p, is_why) =
         let behind = sym (left_behind S old mid a t) in
         let breaks = subst (λ (x : List ℕ). BreaksAt (T a) x ahead) behind p in
-        let front : take ahead (left mid) ≡ drop t.used (take (t.used + ahead) (left old)) = ap (take ahead) behind ∙ sym (drop-take t.used ahead (left old)) in (
+        let front : take ahead (left mid) ≡ drop t.used (take (t.used + ahead) (left old)) =
+        ap (take ahead) behind ∙ sym (drop-take t.used ahead (left old)) in (
           t.used + ahead,
           omega (arith, is_place, t.further),
           pair_breaks_second S T free some (left old) a t.used ahead t.spelled breaks,
-          inr (a, t.used, begins_in_front S T free some (left old) a t.used (t.used + ahead) (omega arith) t.spelled, subst (λ (x : List ℕ). next a x reason) front is_why),
+          inr (
+            a,
+            t.used,
+            begins_in_front S T free some (left old) a t.used (t.used + ahead) (omega arith)
+                t.spelled,
+            subst (λ (x : List ℕ). next a x reason) front is_why,
+          ),
         )
 
 -- what is told of a code is told of another that the same bytes spell
 pub stops_carried : {U V : Type 0} (S : U → List ℕ → Type 0) (T : V → List ℕ → Type 0)
-    (to : (v : V) (bytes : List ℕ) → T v bytes → (u : U) × S u bytes) (from : (u : U) (bytes : List ℕ) → S u bytes → (v : V) × T v bytes)
-    (why other : List ℕ → Reason → Type 0) → ((front : List ℕ) (reason : Reason) → why front reason → other front reason)
+    (to : (v : V) (bytes : List ℕ) → T v bytes → (u : U) × S u bytes)
+    (from : (u : U) (bytes : List ℕ) → S u bytes → (v : V) × T v bytes)
+    (why other : List ℕ → Reason → Type 0) →
+    ((front : List ℕ) (reason : Reason) → why front reason → other front reason)
     → (old : Reader) (stop : Stop) → Stops S why old stop → Stops T other old stop
 stops_carried S T to from why other as_other old Short p = carried_short S T to from (left old) p
-stops_carried S T to from why other as_other old (Bad place reason) (ahead, is_place, p, is_why) =
-    (ahead, is_place, carried_breaks S T to from (left old) ahead p, as_other (take ahead (left old)) reason is_why)
+stops_carried S T to from why other as_other old (Bad place reason) (ahead, is_place, p, is_why) = (
+  ahead,
+  is_place,
+  carried_breaks S T to from (left old) ahead p,
+  as_other (take ahead (left old)) reason is_why,
+)

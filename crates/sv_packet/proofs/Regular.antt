@@ -1,8 +1,18 @@
--- Events whose payload has the same kinds of fields for each identifier: all but prints, ends of calls and opaque ones.
+-- Events whose payload has the same kinds of fields for each identifier: all but prints, ends of
+-- calls and opaque ones.
 use Rattle.std.proofs.Common.{◌≡◌, ℕ, List, [], ◌∷◌, ◌++◌, get_or, refl, sym, ap, subst, ◌∙◌}
 use Rattle.std.specs.Prelude.{◌==◌, if◌then◌else◌}
 use Rattle.sv_packet.specs.declared.event.Event.{Event}
-use Rattle.sv_packet.specs.declared.event.Event.TheVariants.{Nop, Overflow, IsrEnter, IsrExit, TaskStart, TaskStop, TaskReady, TaskUnready, TaskCreate, TaskInfo, TraceStart, TraceStop, SystimeCycles, SystimeUs, SysDesc, MarkStart, MarkStop, Idle, ToScheduler, TimerEnter, TimerExit, StackInfo, ModuleDesc, Init, NameResource, NumModules, TaskTerminate, Print, EndCall, Opaque}
+use Rattle.sv_packet.specs.declared.event.Event.TheVariants.{Nop, Overflow, IsrEnter, IsrExit}
+use Rattle.sv_packet.specs.declared.event.Event.TheVariants.{TaskStart, TaskStop, TaskReady}
+use Rattle.sv_packet.specs.declared.event.Event.TheVariants.{TaskUnready, TaskCreate, TaskInfo}
+use Rattle.sv_packet.specs.declared.event.Event.TheVariants.{TraceStart, TraceStop, SystimeCycles}
+use Rattle.sv_packet.specs.declared.event.Event.TheVariants.{SystimeUs, SysDesc, MarkStart}
+use Rattle.sv_packet.specs.declared.event.Event.TheVariants.{MarkStop, Idle, ToScheduler}
+use Rattle.sv_packet.specs.declared.event.Event.TheVariants.{TimerEnter, TimerExit, StackInfo}
+use Rattle.sv_packet.specs.declared.event.Event.TheVariants.{ModuleDesc, Init, NameResource}
+use Rattle.sv_packet.specs.declared.event.Event.TheVariants.{NumModules, TaskTerminate, Print}
+use Rattle.sv_packet.specs.declared.event.Event.TheVariants.{EndCall, Opaque}
 use Rattle.sv_packet.specs.Table.{identifier, fields, Field, Number, Text, Raw}
 use Rattle.sv_packet.specs.Packet.{AreFields}
 use Rattle.sv_packet.proofs.Fields.{IsLike, AreLike, fields_free}
@@ -46,7 +56,8 @@ pattern id =
     else if id == 29 then Number 0 ∷ []
     else []
 
-like_pattern : (event : Event) → IsRegular event → AreLike (fields event) (pattern (identifier event))
+like_pattern : (event : Event) → IsRegular event →
+    AreLike (fields event) (pattern (identifier event))
 like_pattern Nop regular = tt
 like_pattern (Overflow count) regular = (tt, tt)
 like_pattern (IsrEnter isr) regular = (tt, tt)
@@ -167,8 +178,16 @@ built (EndCall event value) regular = absurd regular
 built (Opaque id payload) regular = absurd regular
 
 -- two such events with one identifier are told from their payloads' fronts
-pub regular_free : (u v : Event) → IsRegular u → IsRegular v → identifier u ≡ identifier v → (a b x y : List ℕ) → AreFields (fields u) a → AreFields (fields v) b → a ++ x ≡ b ++ y → (a ≡ b) × (u ≡ v)
+pub regular_free : (u v : Event) → IsRegular u → IsRegular v → identifier u ≡ identifier v →
+    (a b x y : List ℕ) → AreFields (fields u) a → AreFields (fields v) b → a ++ x ≡ b ++ y →
+    (a ≡ b) × (u ≡ v)
 regular_free u v p q same a b x y s t e =
-    let like = both_like (fields u) (fields v) (pattern (identifier v)) (subst (λ (k : ℕ). AreLike (fields u) (pattern k)) same (like_pattern u p)) (like_pattern v q) in
-    let r = fields_free (fields u) (fields v) like a b x y s t e in
-    (r.0, sym (built u p) ∙ ap (λ (k : ℕ). build k (fields u)) same ∙ ap (build (identifier v)) r.1 ∙ built v q)
+    let like =
+    both_like (fields u) (fields v) (pattern (identifier v))
+    (subst (λ (k : ℕ). AreLike (fields u) (pattern k)) same (like_pattern u p))
+    (like_pattern v q) in
+    let r = fields_free (fields u) (fields v) like a b x y s t e in (
+      r.0,
+      sym (built u p) ∙ ap (λ (k : ℕ). build k (fields u)) same ∙ ap (build (identifier v)) r.1
+          ∙ built v q,
+    )

@@ -1,5 +1,7 @@
 -- Identifiers and lengths: one byte or two.
-use Rattle.std.proofs.Common.{◌≡◌, ◌≢◌, Bool, false, IsTrue, ℕ, ◌+◌, ◌-◌, ◌*◌, ◌<◌, ◌≤◌, List, [], ◌∷◌, ◌++◌, length, get_or, take, drop, refl, sym, ap, subst, ◌∙◌, arith, inl, inr}
+use Rattle.std.proofs.Common.{◌≡◌, ◌≢◌, Bool, false, IsTrue, ℕ, ◌+◌, ◌-◌, ◌*◌, ◌<◌, ◌≤◌, List, []}
+use Rattle.std.proofs.Common.{◌∷◌, ◌++◌, length, get_or, take, drop, refl, sym, ap, subst, ◌∙◌}
+use Rattle.std.proofs.Common.{arith, inl, inr}
 use Rattle.std.proofs.lemmas.Bool.{cases_eq}
 use Rattle.std.proofs.lemmas.List.{length-append, nil_from_length, take-append-drop}
 use Rattle.sv_prim.specs.declared.got.Reason.TheVariants.{BadId}
@@ -40,7 +42,8 @@ one_short b high fits =
     )
 
 -- fewer than two bytes, the first of which is no whole spelling
-pub cut_short : (bytes : List ℕ) → AreBytes bytes → length bytes < 2 → (0 < length bytes → 128 ≤ get_or bytes 0 0) → IsCutShort IsShortNumber bytes
+pub cut_short : (bytes : List ℕ) → AreBytes bytes → length bytes < 2 →
+    (0 < length bytes → 128 ≤ get_or bytes 0 0) → IsCutShort IsShortNumber bytes
 cut_short [] are few high = none_short
 cut_short (b ∷ []) are few high = one_short b (high (omega arith)) are.0
 cut_short (b ∷ c ∷ bytes) are few high = absurd (omega arith)
@@ -52,13 +55,21 @@ not_second b c high none (n, more, inl (low, e)) =
 not_second b c high none (n, more, inr two) =
     let whole : b ∷ c ∷ more ≡ (two.low + 128) ∷ two.rest ∷ [] = two.whole in
     let second : c ≡ two.rest = cc in
-    none (omega (arith, second, two.low_bits, two.sum, two.least), omega (arith, second, two.rest_bits))
+    none (
+      omega (arith, second, two.low_bits, two.sum, two.least),
+      omega (arith, second, two.rest_bits),
+    )
 
 -- a second byte that is none
-pub breaks : (bytes : List ℕ) → AreBytes bytes → 2 ≤ length bytes → 128 ≤ get_or bytes 0 0 → ((0 < get_or bytes 1 0) × (get_or bytes 1 0 < 128) → ⊥) → BreaksAt IsShortNumber bytes 1
+pub breaks : (bytes : List ℕ) → AreBytes bytes → 2 ≤ length bytes → 128 ≤ get_or bytes 0 0 →
+    ((0 < get_or bytes 1 0) × (get_or bytes 1 0 < 128) → ⊥) → BreaksAt IsShortNumber bytes 1
 breaks [] are some high none = absurd (omega arith)
 breaks (b ∷ []) are some high none = absurd (omega arith)
-breaks (b ∷ c ∷ bytes) are some high none = record { within = omega arith; before = one_short b high are.0; here = not_second b c high none }
+breaks (b ∷ c ∷ bytes) are some high none = record {
+  within = omega arith;
+  before = one_short b high are.0;
+  here = not_second b c high none;
+}
 
 -- ---- identifiers
 
@@ -71,18 +82,35 @@ one_byte bytes (inl p) = p.1
 one_byte bytes (inr two) = absurd (omega (arith, two.least))
 
 -- what is cut short of identifiers and lengths is so of identifiers
-pub identifier_short : (bytes : List ℕ) → IsCutShort IsShortNumber bytes → IsCutShort IsIdentifier bytes
+pub identifier_short : (bytes : List ℕ) → IsCutShort IsShortNumber bytes →
+    IsCutShort IsIdentifier bytes
 identifier_short bytes (n, more, some, s) =
     elim (cases_eq n 23) [
       | inl is ↦
-          let whole = one_byte (bytes ++ more) (subst (λ (k : ℕ). IsShortNumber k (bytes ++ more)) is s) in
-          let none : bytes ≡ [] = nil_from_length bytes (omega (arith, not_nil more some, length-append bytes more, ap length whole)) in
-          subst (IsCutShort IsIdentifier) (sym none) (0, 0 ∷ [], (λ e. absurd cc), (inl (omega arith, refl), λ e. omega (arith, e)))
+          let whole =
+          one_byte (bytes ++ more) (subst (λ (k : ℕ). IsShortNumber k (bytes ++ more)) is s) in
+          let none : bytes ≡ [] = nil_from_length bytes (omega (
+            arith,
+            not_nil more some,
+            length-append bytes more,
+            ap length whole,
+          )) in
+          subst (IsCutShort IsIdentifier) (sym none) (
+            0,
+            0 ∷ [],
+            (λ e. absurd cc),
+            (inl (omega arith, refl), λ e. omega (arith, e)),
+          )
       | inr other ↦ (n, more, some, (s, other))
     ]
 
-pub identifier_breaks : (bytes : List ℕ) (place : ℕ) → BreaksAt IsShortNumber bytes place → BreaksAt IsIdentifier bytes place
-identifier_breaks bytes place p = record { within = p.within; before = identifier_short (take place bytes) p.before; here = λ (n, more, s). p.here (n, more, s.0) }
+pub identifier_breaks : (bytes : List ℕ) (place : ℕ) → BreaksAt IsShortNumber bytes place →
+    BreaksAt IsIdentifier bytes place
+identifier_breaks bytes place p = record {
+  within = p.within;
+  before = identifier_short (take place bytes) p.before;
+  here = λ (n, more, s). p.here (n, more, s.0);
+}
 
 -- no identifier begins with the byte 23
 not_23 : GoesOn IsIdentifier (23 ∷ []) → ⊥
@@ -93,22 +121,41 @@ not_23 (n, more, (inr two, other)) =
     omega (arith, first)
 
 -- where 23 is spelled at the front, its byte is refused
-pub breaks_at_23 : (bytes first rest : List ℕ) → IsShortNumber 23 first → first ++ rest ≡ bytes → BreaksAt IsIdentifier bytes 0
+pub breaks_at_23 : (bytes first rest : List ℕ) → IsShortNumber 23 first → first ++ rest ≡ bytes →
+    BreaksAt IsIdentifier bytes 0
 breaks_at_23 bytes first rest s whole =
     let all : 23 ∷ rest ≡ bytes = ap (λ (k : List ℕ). k ++ rest) (sym (one_byte first s)) ∙ whole in
-    subst (λ (x : List ℕ). BreaksAt IsIdentifier x 0) all (record { within = omega arith; before = identifier_short [] none_short; here = not_23 })
+    subst (λ (x : List ℕ). BreaksAt IsIdentifier x 0) all (record {
+      within = omega arith;
+      before = identifier_short [] none_short;
+      here = not_23;
+    })
 
 -- ---- a reader at an identifier
 
-pub takes_identifier : (old new : Reader) (id : ℕ) → id ≢ 23 → Takes IsShortNumber old new id → Takes IsIdentifier old new id
-takes_identifier old new id known t = record { used = t.used; same = t.same; further = t.further; spelled = record { within = t.spelled.within; spelled = (t.spelled.spelled, known) } }
+pub takes_identifier : (old new : Reader) (id : ℕ) → id ≢ 23 → Takes IsShortNumber old new id →
+    Takes IsIdentifier old new id
+takes_identifier old new id known t = record {
+  used = t.used;
+  same = t.same;
+  further = t.further;
+  spelled = record { within = t.spelled.within; spelled = (t.spelled.spelled, known) };
+}
 
-pub refuses_23 : (old new : Reader) (id : ℕ) → id ≡ 23 → Takes IsShortNumber old new id → Stops IsIdentifier (Always BadId) old (Bad old.at BadId)
+pub refuses_23 : (old new : Reader) (id : ℕ) → id ≡ 23 → Takes IsShortNumber old new id →
+    Stops IsIdentifier (Always BadId) old (Bad old.at BadId)
 refuses_23 old new id is t =
     let first = take t.used (left old) in
-    let s : IsShortNumber 23 first = subst (λ (k : ℕ). IsShortNumber k first) is t.spelled.spelled in
-    (0, omega arith, breaks_at_23 (left old) first (drop t.used (left old)) s (take-append-drop t.used (left old)), refl)
+    let s : IsShortNumber 23 first =
+    subst (λ (k : ℕ). IsShortNumber k first) is t.spelled.spelled in (
+      0,
+      omega arith,
+      breaks_at_23 (left old) first (drop t.used (left old)) s (take-append-drop t.used (left old)),
+      refl,
+    )
 
-pub stops_identifier : (old : Reader) (stop : Stop) → Stops IsShortNumber (Always BadId) old stop → Stops IsIdentifier (Always BadId) old stop
+pub stops_identifier : (old : Reader) (stop : Stop) → Stops IsShortNumber (Always BadId) old stop →
+    Stops IsIdentifier (Always BadId) old stop
 stops_identifier old Short p = identifier_short (left old) p
-stops_identifier old (Bad place reason) (ahead, is_place, p, is_why) = (ahead, is_place, identifier_breaks (left old) ahead p, is_why)
+stops_identifier old (Bad place reason) (ahead, is_place, p, is_why) =
+    (ahead, is_place, identifier_breaks (left old) ahead p, is_why)

@@ -1,11 +1,13 @@
 -- How many bytes a payload has at most.
-use Rattle.std.proofs.Common.{◌≡◌, ℕ, ◌+◌, ◌*◌, ◌≤◌, List, [], ◌∷◌, ◌++◌, map, length, Some, None, refl, ap, arith, inl, inr}
+use Rattle.std.proofs.Common.{◌≡◌, ℕ, ◌+◌, ◌*◌, ◌≤◌, List, [], ◌∷◌, ◌++◌, map, length, Some, None}
+use Rattle.std.proofs.Common.{refl, ap, arith, inl, inr}
 use Rattle.std.proofs.lemmas.Bool.{cases_lt}
 use Rattle.std.proofs.lemmas.List.{length-append}
 use Rattle.sv_prim.specs.Text.{text_spelling}
 use Rattle.sv_prim.proofs.Shared.{of_few, text_spelling-long, text_spelling-short}
 use Rattle.sv_packet.specs.declared.event.Event.{Event}
-use Rattle.sv_packet.specs.declared.event.Event.TheVariants.{TaskInfo, SysDesc, ModuleDesc, NameResource, Print, EndCall, Opaque}
+use Rattle.sv_packet.specs.declared.event.Event.TheVariants.{TaskInfo, SysDesc, ModuleDesc}
+use Rattle.sv_packet.specs.declared.event.Event.TheVariants.{NameResource, Print, EndCall, Opaque}
 use Rattle.sv_packet.specs.Table.{fields, Field, Number, Text, Raw}
 use Rattle.sv_packet.specs.Spelling.{field_spelling, fields_spelling, payload_of, HasTexts, IsShort}
 
@@ -31,7 +33,12 @@ field_small (Raw raw) = omega arith
 
 pub fields_small : (fs : List Field) → length (fields_spelling fs) ≤ weights fs
 fields_small [] = omega arith
-fields_small (field ∷ fs) = omega (arith, length-append (field_spelling field) (fields_spelling fs), field_small field, fields_small fs)
+fields_small (field ∷ fs) = omega (
+  arith,
+  length-append (field_spelling field) (fields_spelling fs),
+  field_small field,
+  fields_small fs,
+)
 
 pub args_weight : (args : List ℕ) → weights (map Number args) ≡ 5 * length args
 args_weight [] = refl
@@ -49,12 +56,17 @@ fields_weight (EndCall event (Some value)) texts short = omega arith
 fields_weight (Opaque id payload) texts short = omega arith
 fields_weight other texts short = omega arith
 
-pub payload_small : (event : Event) → HasTexts 128 event → IsShort event → length (payload_of event) ≤ 196
-payload_small event texts short = omega (arith, fields_small (fields event), fields_weight event texts short)
+pub payload_small : (event : Event) → HasTexts 128 event → IsShort event →
+    length (payload_of event) ≤ 196
+payload_small event texts short =
+    omega (arith, fields_small (fields event), fields_weight event texts short)
 
 -- an event that holds numbers alone has four at most
-numbers_weight : (event : Event) → ((a b : ℕ) (t : List ℕ) → event ≡ TaskInfo a b t → ⊥) → ((t : List ℕ) → event ≡ SysDesc t → ⊥) → ((a b : ℕ) (t : List ℕ) → event ≡ ModuleDesc a b t → ⊥)
-    → ((a : ℕ) (t : List ℕ) → event ≡ NameResource a t → ⊥) → ((t : List ℕ) (a : ℕ) (args : List ℕ) → event ≡ Print t a args → ⊥) → ((a : ℕ) (t : List ℕ) → event ≡ Opaque a t → ⊥) → weights (fields event) ≤ 20
+numbers_weight : (event : Event) → ((a b : ℕ) (t : List ℕ) → event ≡ TaskInfo a b t → ⊥) →
+    ((t : List ℕ) → event ≡ SysDesc t → ⊥) → ((a b : ℕ) (t : List ℕ) → event ≡ ModuleDesc a b t → ⊥)
+    → ((a : ℕ) (t : List ℕ) → event ≡ NameResource a t → ⊥) →
+    ((t : List ℕ) (a : ℕ) (args : List ℕ) → event ≡ Print t a args → ⊥) →
+    ((a : ℕ) (t : List ℕ) → event ≡ Opaque a t → ⊥) → weights (fields event) ≤ 20
 numbers_weight (TaskInfo a b t) n1 n2 n3 n4 n5 n6 = absurd (n1 a b t refl)
 numbers_weight (SysDesc t) n1 n2 n3 n4 n5 n6 = absurd (n2 t refl)
 numbers_weight (ModuleDesc a b t) n1 n2 n3 n4 n5 n6 = absurd (n3 a b t refl)
@@ -65,16 +77,23 @@ numbers_weight (EndCall event None) n1 n2 n3 n4 n5 n6 = omega arith
 numbers_weight (EndCall event (Some value)) n1 n2 n3 n4 n5 n6 = omega arith
 numbers_weight other n1 n2 n3 n4 n5 n6 = omega arith
 
-pub numbers_small : (event : Event) → ((a b : ℕ) (t : List ℕ) → event ≡ TaskInfo a b t → ⊥) → ((t : List ℕ) → event ≡ SysDesc t → ⊥) → ((a b : ℕ) (t : List ℕ) → event ≡ ModuleDesc a b t → ⊥)
-    → ((a : ℕ) (t : List ℕ) → event ≡ NameResource a t → ⊥) → ((t : List ℕ) (a : ℕ) (args : List ℕ) → event ≡ Print t a args → ⊥) → ((a : ℕ) (t : List ℕ) → event ≡ Opaque a t → ⊥) → length (payload_of event) ≤ 20
-numbers_small event n1 n2 n3 n4 n5 n6 = omega (arith, fields_small (fields event), numbers_weight event n1 n2 n3 n4 n5 n6)
+pub numbers_small : (event : Event) → ((a b : ℕ) (t : List ℕ) → event ≡ TaskInfo a b t → ⊥) →
+    ((t : List ℕ) → event ≡ SysDesc t → ⊥) → ((a b : ℕ) (t : List ℕ) → event ≡ ModuleDesc a b t → ⊥)
+    → ((a : ℕ) (t : List ℕ) → event ≡ NameResource a t → ⊥) →
+    ((t : List ℕ) (a : ℕ) (args : List ℕ) → event ≡ Print t a args → ⊥) →
+    ((a : ℕ) (t : List ℕ) → event ≡ Opaque a t → ⊥) → length (payload_of event) ≤ 20
+numbers_small event n1 n2 n3 n4 n5 n6 =
+    omega (arith, fields_small (fields event), numbers_weight event n1 n2 n3 n4 n5 n6)
 
 pub plain_small : (ns : List ℕ) → length (fields_spelling (map Number ns)) ≤ 5 * length ns
 plain_small ns = omega (arith, fields_small (map Number ns), args_weight ns)
 
-texted_weight : (ns text : List ℕ) → weights (map Number ns ++ Text text ∷ []) ≡ 5 * length ns + (3 + length text)
+texted_weight : (ns text : List ℕ) →
+    weights (map Number ns ++ Text text ∷ []) ≡ 5 * length ns + (3 + length text)
 texted_weight [] text = omega arith
 texted_weight (n ∷ ns) text = omega (arith, texted_weight ns text)
 
-pub texted_small : (ns text : List ℕ) → length (fields_spelling (map Number ns ++ Text text ∷ [])) ≤ 5 * length ns + (3 + length text)
-texted_small ns text = omega (arith, fields_small (map Number ns ++ Text text ∷ []), texted_weight ns text)
+pub texted_small : (ns text : List ℕ) →
+    length (fields_spelling (map Number ns ++ Text text ∷ [])) ≤ 5 * length ns + (3 + length text)
+texted_small ns text =
+    omega (arith, fields_small (map Number ns ++ Text text ∷ []), texted_weight ns text)

@@ -7,7 +7,18 @@ use Rattle.sv_packet.specs.declared.event.Event.TheVariants as owned
 use Rattle.sv_packet.specs.declared.event.Packet.{Packet}
 use Rattle.sv_packet.specs.declared.event.TimedEvent.{TimedEvent}
 use Rattle.sv_packet.specs.declared.event_ref.EventRef.{EventRef}
-use Rattle.sv_packet.specs.declared.event_ref.EventRef.TheVariants.{Nop, Overflow, IsrEnter, IsrExit, TaskStart, TaskStop, TaskReady, TaskUnready, TaskCreate, TaskInfo, TraceStart, TraceStop, SystimeCycles, SystimeUs, SysDesc, MarkStart, MarkStop, Idle, ToScheduler, TimerEnter, TimerExit, StackInfo, ModuleDesc, Init, NameResource, Print, NumModules, EndCall, TaskTerminate, Opaque}
+use Rattle.sv_packet.specs.declared.event_ref.EventRef.TheVariants.{Nop, Overflow, IsrEnter}
+use Rattle.sv_packet.specs.declared.event_ref.EventRef.TheVariants.{IsrExit, TaskStart, TaskStop}
+use Rattle.sv_packet.specs.declared.event_ref.EventRef.TheVariants.{TaskReady, TaskUnready}
+use Rattle.sv_packet.specs.declared.event_ref.EventRef.TheVariants.{TaskCreate, TaskInfo}
+use Rattle.sv_packet.specs.declared.event_ref.EventRef.TheVariants.{TraceStart, TraceStop}
+use Rattle.sv_packet.specs.declared.event_ref.EventRef.TheVariants.{SystimeCycles, SystimeUs}
+use Rattle.sv_packet.specs.declared.event_ref.EventRef.TheVariants.{SysDesc, MarkStart, MarkStop}
+use Rattle.sv_packet.specs.declared.event_ref.EventRef.TheVariants.{Idle, ToScheduler, TimerEnter}
+use Rattle.sv_packet.specs.declared.event_ref.EventRef.TheVariants.{TimerExit, StackInfo}
+use Rattle.sv_packet.specs.declared.event_ref.EventRef.TheVariants.{ModuleDesc, Init, NameResource}
+use Rattle.sv_packet.specs.declared.event_ref.EventRef.TheVariants.{Print, NumModules, EndCall}
+use Rattle.sv_packet.specs.declared.event_ref.EventRef.TheVariants.{TaskTerminate, Opaque}
 use Rattle.sv_packet.specs.declared.event_ref.PacketRef.{PacketRef}
 
 -- the event that is seen

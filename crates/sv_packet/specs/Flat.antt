@@ -1,5 +1,6 @@
 -- Flat packets: those that a recorder forms from an identifier, some numbers and a text.
-use Rattle.std.specs.Prelude.{◌≡◌, ℕ, Bool, List, [], ◌∷◌, ◌++◌, map, Option, Some, None, ◌==◌, ◌||◌, if◌then◌else◌}
+use Rattle.std.specs.Prelude.{◌≡◌, ℕ, Bool, List, [], ◌∷◌, ◌++◌, map, Option, Some, None, ◌==◌}
+use Rattle.std.specs.Prelude.{◌||◌, if◌then◌else◌}
 use Rattle.sv_packet.specs.declared.event.Event.{Event}
 use Rattle.sv_packet.specs.Table.{identifier, fields, Number, Text}
 

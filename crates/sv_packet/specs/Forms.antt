@@ -19,7 +19,10 @@ IsCountedId id = (24 ≤ id) × (id ≤ 16383)
 
 -- the payload spells what was read of it
 abbrev pub IsFormOf : ℕ → List ℕ → Form → Type 0
-IsFormOf id payload (Regular four text) = IsRegularForm id × AreFields (fields_by id (numbers_in (number_count id) four) text.now) payload
+IsFormOf id payload (Regular four text) =
+    IsRegularForm id × AreFields (fields_by id (numbers_in (number_count id) four) text.now) payload
 IsFormOf id payload (Print text options count args) =
-    (id ≡ 26) × (numbers : List ℕ) × AreNumbers count numbers args.now × AreFields (fields (event.Print text.now options numbers)) payload
-IsFormOf id payload (EndCall call value) = (id ≡ 28) × AreFields (fields (event.EndCall call value)) payload
+    (id ≡ 26) × (numbers : List ℕ) × AreNumbers count numbers args.now ×
+    AreFields (fields (event.Print text.now options numbers)) payload
+IsFormOf id payload (EndCall call value) =
+    (id ≡ 28) × AreFields (fields (event.EndCall call value)) payload

@@ -1,7 +1,8 @@
 -- Events from what they are read from.
 use Rattle.std.specs.Prelude.{◌≡◌, ℕ, List}
 use Rattle.sv_packet.specs.declared.event.Event.{Event}
-use Rattle.sv_packet.specs.declared.event.Event.TheVariants.{TaskInfo, SysDesc, ModuleDesc, NameResource, Print, Opaque}
+use Rattle.sv_packet.specs.declared.event.Event.TheVariants.{TaskInfo, SysDesc, ModuleDesc}
+use Rattle.sv_packet.specs.declared.event.Event.TheVariants.{NameResource, Print, Opaque}
 use Rattle.sv_packet.specs.Table.{identifier, fields}
 use Rattle.sv_packet.specs.Packet.{AreFields, IsKeptAsBytes}
 use Rattle.sv_packet.specs.Shape.{fields_by}

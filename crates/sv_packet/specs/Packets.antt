@@ -7,7 +7,9 @@ use Rattle.sv_packet.specs.Packet.{IsPacket}
 -- the bytes spell these packets, one after another
 abbrev pub ArePackets : List Packet → List ℕ → Type 0
 ArePackets [] bytes = bytes ≡ []
-ArePackets (packet ∷ packets) bytes = (first : List ℕ) × (rest : List ℕ) × IsPacket packet first × ArePackets packets rest × (bytes ≡ first ++ rest)
+ArePackets (packet ∷ packets) bytes =
+    (first : List ℕ) × (rest : List ℕ) × IsPacket packet first × ArePackets packets rest ×
+    (bytes ≡ first ++ rest)
 
 -- the bytes begin with no packet
 abbrev pub BeginsWithNone : List ℕ → Type 0

@@ -17,14 +17,16 @@ use Rattle.sv_packet.specs.Reader.{Takes, Stops, numbers_in}
 -- the parts tell the event
 abbrev pub IsToldBy : Parts → Event → Type 0
 IsToldBy parts event =
-    ((parts.id < 24) × IsMade parts.id (numbers_in (number_count parts.id) parts.four) parts.bytes.now event)
+    ((parts.id < 24) ×
+    IsMade parts.id (numbers_in (number_count parts.id) parts.four) parts.bytes.now event)
     ⊎ ((24 ≤ parts.id) × IsEventOf parts.id parts.bytes.now event)
 
 -- the reader took a packet of these parts
 pub record TakesParts (old new : Reader) (parts : Parts) : Type 0 where
   pub known : parts.id ≢ 23
   pub fits : parts.id ≤ 16383
-  pub packet : (event : Event) → IsToldBy parts event → Takes IsPacket old new (record { event = event; delta = parts.delta })
+  pub packet : (event : Event) → IsToldBy parts event →
+      Takes IsPacket old new (record { event = event; delta = parts.delta })
 
 abbrev pub ReadsParts : Reader → Reader → Result Parts Stop → Type 0
 ReadsParts old new (Ok parts) = TakesParts old new parts

@@ -11,13 +11,16 @@ use Rattle.sv_packet.specs.Parts.{IsIdentifier, AreNumbers, IsTextIf, IsOfSize}
 abbrev pub Never : List ℕ → Reason → Type 0
 Never front reason = ⊥
 
--- below identifier 24 and behind the numbers: in the length of the text, if there is one, or in the delta
+-- below identifier 24 and behind the numbers: in the length of the text, if there is one, or in the
+-- delta
 abbrev pub BareEndReason : ℕ → List ℕ → Reason → Type 0
-BareEndReason id = PairReason (IsTextIf (ends_in_text id)) (Always BadText) (λ text. Always BadNumber)
+BareEndReason id =
+    PairReason (IsTextIf (ends_in_text id)) (Always BadText) (λ text. Always BadNumber)
 
 -- below identifier 24: in the numbers, or behind them
 abbrev pub BareReason : ℕ → List ℕ → Reason → Type 0
-BareReason id = PairReason (AreNumbers (number_count id)) (Always BadNumber) (λ numbers. BareEndReason id)
+BareReason id =
+    PairReason (AreNumbers (number_count id)) (Always BadNumber) (λ numbers. BareEndReason id)
 
 -- from identifier 24 on and behind the length: never in the payload, and in the delta
 abbrev pub CountedEndReason : ℕ → List ℕ → Reason → Type 0
@@ -29,7 +32,8 @@ CountedReason = PairReason IsShortNumber (Always BadLength) CountedEndReason
 
 -- behind an identifier
 abbrev pub BodyReason : ℕ → List ℕ → Reason → Type 0
-BodyReason id front reason = ((id < 24) × BareReason id front reason) ⊎ ((24 ≤ id) × CountedReason front reason)
+BodyReason id front reason =
+    ((id < 24) × BareReason id front reason) ⊎ ((24 ≤ id) × CountedReason front reason)
 
 -- the reason behind the bytes before the place: in the identifier, or behind it
 abbrev pub packet_reason : List ℕ → Reason → Type 0

@@ -22,6 +22,7 @@ ends_in_text id = is_one_of id (9 ∷ 14 ∷ 22 ∷ 25 ∷ [])
 abbrev pub fields_by : ℕ → List ℕ → List ℕ → List Field
 fields_by id numbers text = map Number numbers ++ (if ends_in_text id then Text text ∷ [] else [])
 
--- the identifiers that tell it: all but those of prints, of ends of calls, and of opaque events alone
+-- the identifiers that tell it: all but those of prints, of ends of calls, and of opaque events
+-- alone
 abbrev pub IsRegularId : ℕ → Type 0
 IsRegularId id = (id ≤ 22) ⊎ (id ≡ 24) ⊎ (id ≡ 25) ⊎ (id ≡ 27) ⊎ (id ≡ 29)

@@ -1,5 +1,6 @@
 -- A packet's spelling as a function, and which events have one.
-use Rattle.std.specs.Prelude.{ℕ, ◌/◌, ◌%◌, ◌+◌, ◌^◌, ◌<◌, ◌≤◌, List, [], ◌∷◌, ◌++◌, length, nat_lt, nat_le, if◌then◌else◌}
+use Rattle.std.specs.Prelude.{ℕ, ◌/◌, ◌%◌, ◌+◌, ◌^◌, ◌<◌, ◌≤◌, List, [], ◌∷◌, ◌++◌, length, nat_lt}
+use Rattle.std.specs.Prelude.{nat_le, if◌then◌else◌}
 use Rattle.std.specs.List.{flat_map, AllByRecursion}
 use Rattle.sv_prim.specs.Number.{number_spelling}
 use Rattle.sv_prim.specs.Text.{AreBytes, text_spelling}
@@ -27,7 +28,8 @@ head_spelling id size = if nat_le 24 id then short_spelling id ++ short_spelling
 
 -- the spelling of an identifier, fields and a delta
 abbrev pub parts_spelling : ℕ → List Field → ℕ → List ℕ
-parts_spelling id fs delta = head_spelling id (length (fields_spelling fs)) ++ (fields_spelling fs ++ number_spelling delta)
+parts_spelling id fs delta =
+    head_spelling id (length (fields_spelling fs)) ++ (fields_spelling fs ++ number_spelling delta)
 
 abbrev pub print_payload : List ℕ → ℕ → List ℕ → List ℕ
 print_payload text options args = fields_spelling (print_fields text options args)

@@ -1,7 +1,16 @@
 -- The table of packets (UM08027, event identifiers): one line for each event, twice.
 use Rattle.std.specs.Prelude.{ℕ, List, [], ◌∷◌, map, length, Some, None}
 use Rattle.sv_packet.specs.declared.event.Event.{Event}
-use Rattle.sv_packet.specs.declared.event.Event.TheVariants.{Nop, Overflow, IsrEnter, IsrExit, TaskStart, TaskStop, TaskReady, TaskUnready, TaskCreate, TaskInfo, TraceStart, TraceStop, SystimeCycles, SystimeUs, SysDesc, MarkStart, MarkStop, Idle, ToScheduler, TimerEnter, TimerExit, StackInfo, ModuleDesc, Init, NameResource, Print, NumModules, EndCall, TaskTerminate, Opaque}
+use Rattle.sv_packet.specs.declared.event.Event.TheVariants.{Nop, Overflow, IsrEnter, IsrExit}
+use Rattle.sv_packet.specs.declared.event.Event.TheVariants.{TaskStart, TaskStop, TaskReady}
+use Rattle.sv_packet.specs.declared.event.Event.TheVariants.{TaskUnready, TaskCreate, TaskInfo}
+use Rattle.sv_packet.specs.declared.event.Event.TheVariants.{TraceStart, TraceStop, SystimeCycles}
+use Rattle.sv_packet.specs.declared.event.Event.TheVariants.{SystimeUs, SysDesc, MarkStart}
+use Rattle.sv_packet.specs.declared.event.Event.TheVariants.{MarkStop, Idle, ToScheduler}
+use Rattle.sv_packet.specs.declared.event.Event.TheVariants.{TimerEnter, TimerExit, StackInfo}
+use Rattle.sv_packet.specs.declared.event.Event.TheVariants.{ModuleDesc, Init, NameResource, Print}
+use Rattle.sv_packet.specs.declared.event.Event.TheVariants.{NumModules, EndCall, TaskTerminate}
+use Rattle.sv_packet.specs.declared.event.Event.TheVariants.{Opaque}
 
 -- the identifier that begins an event's packet
 abbrev pub identifier : Event → ℕ
@@ -69,9 +78,11 @@ fields Idle = []
 fields ToScheduler = []
 fields (TimerEnter timer) = Number timer ∷ []
 fields TimerExit = []
-fields (StackInfo task stack_base stack_size extra) = Number task ∷ Number stack_base ∷ Number stack_size ∷ Number extra ∷ []
+fields (StackInfo task stack_base stack_size extra) =
+    Number task ∷ Number stack_base ∷ Number stack_size ∷ Number extra ∷ []
 fields (ModuleDesc number offset text) = Number number ∷ Number offset ∷ Text text ∷ []
-fields (Init sys_freq cpu_freq ram_base shift) = Number sys_freq ∷ Number cpu_freq ∷ Number ram_base ∷ Number shift ∷ []
+fields (Init sys_freq cpu_freq ram_base shift) =
+    Number sys_freq ∷ Number cpu_freq ∷ Number ram_base ∷ Number shift ∷ []
 fields (NameResource resource text) = Number resource ∷ Text text ∷ []
 fields (Print text options args) = print_fields text options args
 fields (NumModules count) = Number count ∷ []

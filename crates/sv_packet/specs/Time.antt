@@ -18,4 +18,6 @@ time_of packets = sum_by (λ packet. packet.delta) packets
 
 -- each packet's event at the sum of the deltas up to it
 abbrev pub timed : List Packet → List TimedEvent
-timed packets = map (λ at. record { time = time_of (at.0 ++ at.1 ∷ []); event = at.1.event }) (with_before packets)
+timed packets =
+    map (λ at. record { time = time_of (at.0 ++ at.1 ∷ []); event = at.1.event })
+    (with_before packets)

@@ -3,7 +3,8 @@ ghost use Rattle.std.specs.Prelude.{◌≡◌, ◌+◌, ◌*◌, ◌^◌, ◌<�
 ghost use Rattle.std.specs.List.{AllByRecursion};
 ghost use Rattle.sv_prim.specs.Number.{number_spelling, numbers_spelling, AreWords};
 ghost use Rattle.sv_prim.specs.Text.{text_spelling, AreBytes};
-ghost use Rattle.sv_packet.specs.Spelling.{short_spelling, head_spelling, fields_spelling, parts_spelling};
+ghost use Rattle.sv_packet.specs.Spelling.{short_spelling, head_spelling, fields_spelling};
+ghost use Rattle.sv_packet.specs.Spelling.{parts_spelling};
 ghost use Rattle.sv_packet.specs.Table.{Number, Text, Raw};
 
 use crate::pen::Pen;

@@ -2,7 +2,8 @@
 ghost use Rattle.std.specs.Prelude.{◌≡◌, ◌+◌, ◌^◌, ◌<◌, ◌≤◌, [], ◌∷◌, ◌++◌, length, map};
 ghost use Rattle.std.specs.List.{AllByRecursion};
 ghost use Rattle.sv_prim.specs.Text.{AreBytes};
-ghost use Rattle.sv_packet.specs.Spelling.{fields_spelling, parts_spelling, print_payload, IsInRange};
+ghost use Rattle.sv_packet.specs.Spelling.{fields_spelling, parts_spelling, print_payload};
+ghost use Rattle.sv_packet.specs.Spelling.{IsInRange};
 ghost use Rattle.sv_packet.specs.Table.{print_fields, Number, Text, Raw};
 
 use crate::forming::{number_len, numbers_len, put_head, put_numbers, text_len};

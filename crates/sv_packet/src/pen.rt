@@ -6,7 +6,8 @@ ghost use Rattle.sv_prim.specs.Text.{text_spelling};
 
 use sv_prim::{Buf, put_text, put_u32};
 
-/// Takes the bytes of a packet, in their order. It has room for what a call adds, so that none fails.
+/// Takes the bytes of a packet, in their order. It has room for what a call adds, so that none
+/// fails.
 pub trait Pen {
     /// All that was written.
     ghost written: { Self → List ℕ };

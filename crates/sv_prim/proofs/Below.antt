@@ -1,5 +1,6 @@
 -- Bytes: parts of them are bytes, and those of a slice are.
-use Rattle.std.proofs.Common.{ℕ, zero, suc, List, [], ◌∷◌, ◌++◌, get_or, take, drop, replicate, Fits, w8, arith}
+use Rattle.std.proofs.Common.{ℕ, zero, suc, List, [], ◌∷◌, ◌++◌, get_or, take, drop, replicate}
+use Rattle.std.proofs.Common.{Fits, w8, arith}
 use Rattle.sv_prim.specs.Text.{AreBytes}
 
 -- the bytes of a slice are bytes

@@ -1,6 +1,7 @@
 -- Numbers (UM08027, encoding of U32): seven bits in each byte, the least significant group first.
 -- That only the shortest form is read is this format's own rule: so a number has one spelling.
-use Rattle.std.specs.Prelude.{◌≡◌, ◌≢◌, ℕ, zero, suc, ◌+◌, ◌-◌, ◌*◌, ◌/◌, ◌%◌, ◌^◌, ◌<◌, ◌≤◌, List, [], ◌∷◌, length, slice_index, nat_lt, if◌then◌else◌}
+use Rattle.std.specs.Prelude.{◌≡◌, ◌≢◌, ℕ, zero, suc, ◌+◌, ◌-◌, ◌*◌, ◌/◌, ◌%◌, ◌^◌, ◌<◌, ◌≤◌, List}
+use Rattle.std.specs.Prelude.{[], ◌∷◌, length, slice_index, nat_lt, if◌then◌else◌}
 use Rattle.std.specs.List.{flat_map, AllByRecursion}
 use Rattle.sv_prim.specs.declared.got.Reason.{Reason}
 use Rattle.sv_prim.specs.declared.got.Reason.TheVariants.{BadNumber}
@@ -32,7 +33,8 @@ number_reason = Always BadNumber
 -- a number as seven bits a byte, the lowest first, in at most so many bytes and one more
 abbrev pub groups_of : ℕ → ℕ → List ℕ
 groups_of zero value = value ∷ []
-groups_of (suc more) value = if nat_lt value 128 then value ∷ [] else (value % 128 + 128) ∷ groups_of more (value / 128)
+groups_of (suc more) value =
+    if nat_lt value 128 then value ∷ [] else (value % 128 + 128) ∷ groups_of more (value / 128)
 
 -- the one spelling of a number below 2 ^ 32
 abbrev pub number_spelling : ℕ → List ℕ

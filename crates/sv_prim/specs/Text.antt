@@ -1,5 +1,6 @@
 -- Texts (after the target's sources): a length, and so many bytes.
-use Rattle.std.specs.Prelude.{◌≡◌, ℕ, ◌+◌, ◌*◌, ◌%◌, ◌/◌, ◌<◌, ◌≤◌, ◌⊎◌, List, ◌∷◌, length, nat_lt, if◌then◌else◌}
+use Rattle.std.specs.Prelude.{◌≡◌, ℕ, ◌+◌, ◌*◌, ◌%◌, ◌/◌, ◌<◌, ◌≤◌, ◌⊎◌, List, ◌∷◌, length, nat_lt}
+use Rattle.std.specs.Prelude.{if◌then◌else◌}
 use Rattle.std.specs.List.{AllByRecursion}
 
 -- each element is a byte
@@ -25,7 +26,8 @@ pub record IsLongText (text bytes : List ℕ) : Type 0 where
 abbrev pub IsText : List ℕ → List ℕ → Type 0
 IsText text bytes = AreBytes text × (IsShortText text bytes ⊎ IsLongText text bytes)
 
--- the length in one byte, or from 255 on behind the byte 255 in two bytes with the low one first, and the text
+-- the length in one byte, or from 255 on behind the byte 255 in two bytes with the low one first,
+-- and the text
 abbrev pub text_spelling : List ℕ → List ℕ
 text_spelling text =
     if nat_lt (length text) 255

@@ -15,8 +15,10 @@ pub record IsTextAt (at : TextAt) (bytes : List ℕ) : Type 0 where
 abbrev pub text_reason : List ℕ → Reason → Type 0
 text_reason = Always BadText
 
--- the bytes are the length of a text: one byte, or from 255 on 255 and two bytes with the low one first
+-- the bytes are the length of a text: one byte, or from 255 on 255 and two bytes with the low one
+-- first
 abbrev pub IsTextLength : ℕ → List ℕ → Type 0
 IsTextLength size bytes =
     ((size ≤ 254) × (bytes ≡ size ∷ []))
-    ⊎ ((255 ≤ size) × (low : ℕ) × (high : ℕ) × (low < 256) × (high < 256) × (size ≡ low + 256 * high) × (bytes ≡ 255 ∷ low ∷ high ∷ []))
+    ⊎ ((255 ≤ size) × (low : ℕ) × (high : ℕ) × (low < 256) × (high < 256) ×
+    (size ≡ low + 256 * high) × (bytes ≡ 255 ∷ low ∷ high ∷ []))

@@ -15,8 +15,8 @@ pub fn shrink(id: u32, base: u32, shift: u32) -> u32
 
 /// The identifier that lies `s` units of 2^shift bytes above the base (UM08027, shrinking of IDs).
 ///
-/// `base` and the answer are addresses in bytes, taken modulo 2^32; `shift` is a count of bits from 0
-/// to 31. [`aligned`] tells for which identifiers this takes [`shrink`] back.
+/// `base` and the answer are addresses in bytes, taken modulo 2^32; `shift` is a count of bits from
+/// 0 to 31. [`aligned`] tells for which identifiers this takes [`shrink`] back.
 pub fn unshrink(s: u32, base: u32, shift: u32) -> u32
     requires { shift ≤ 31 }
     ensures { result ≡ unshrunk s base shift }

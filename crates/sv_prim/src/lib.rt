@@ -3,8 +3,8 @@
 //!
 //! The contract above this crate: a number and a text have exactly one spelling each. [`get_u32`]
 //! and [`get_text`] say of any bytes whether they begin with one, end inside one, or break off at
-//! which byte. [`put_u32`] and [`put_text`] add that spelling to a packet, and [`number_spelled`] is
-//! the law that a number has no other. Beside them stands the arithmetic of ticks ([`delta`])
+//! which byte. [`put_u32`] and [`put_text`] add that spelling to a packet, and [`number_spelled`]
+//! is the law that a number has no other. Beside them stands the arithmetic of ticks ([`delta`])
 //! and of identifiers ([`shrink`], [`unshrink`], [`aligned`]).
 #![tactic(auto)]
 

@@ -1,4 +1,5 @@
-ghost use Rattle.std.specs.Prelude.{◌≡◌, ℕ, ◌+◌, ◌*◌, ◌%◌, ◌^◌, ◌<◌, ◌≤◌, ◌↔◌, ◌⊎◌, ◌++◌, length, IsTrue};
+ghost use Rattle.std.specs.Prelude.{◌≡◌, ℕ, ◌+◌, ◌*◌, ◌%◌, ◌^◌, ◌<◌, ◌≤◌, ◌↔◌, ◌⊎◌, ◌++◌, length};
+ghost use Rattle.std.specs.Prelude.{IsTrue};
 ghost use Rattle.sv_prim.specs.Code.{Tells, IsOnly};
 ghost use Rattle.sv_prim.specs.Number.{IsNumber, number_reason, number_spelling};
 
@@ -54,8 +55,8 @@ pub fn get_u32(bytes: &[u8]) -> Got<u32>
     Got::Short
 }
 
-/// Adds the number's one spelling to the buffer (UM08027, encoding of U32): seven bits in each byte,
-/// the least significant group first, bit 7 set on all but the last.
+/// Adds the number's one spelling to the buffer (UM08027, encoding of U32): seven bits in each
+/// byte, the least significant group first, bit 7 set on all but the last.
 ///
 /// It adds one to five bytes: one below 2^7, two below 2^14, three below 2^21, four below 2^28. It
 /// takes no memory, and does not fail.

@@ -1,5 +1,6 @@
 -- A decoder at whose front an event stands, and behind it.
-use Rattle.std.proofs.Common.{◌≡◌, ℕ, ◌+◌, ◌<◌, arith, length, List, [], ◌∷◌, ◌++◌, drop, refl, sym, ap, subst, ◌∙◌}
+use Rattle.std.proofs.Common.{◌≡◌, ℕ, ◌+◌, ◌<◌, arith, length, List, [], ◌∷◌, ◌++◌, drop, refl, sym}
+use Rattle.std.proofs.Common.{ap, subst, ◌∙◌}
 use Rattle.sv_prim.specs.Code.{Begins, IsCutShort, BreaksAt}
 use Rattle.sv_prim.proofs.Shared.{begins_not_breaks, begins_not_cut}
 use Rattle.sv_packet.specs.declared.event.Event.{Event}

@@ -1,5 +1,6 @@
 -- A decoder: how far it is in its input, and which events it has given.
-use Rattle.std.specs.Prelude.{◌≡◌, ◌≢◌, ℕ, zero, suc, ◌+◌, ◌*◌, ◌-◌, ◌^◌, ◌≤◌, List, [], ◌∷◌, ◌++◌, length, take, Option, Some, None, Result, Ok, Err, ◌⊎◌}
+use Rattle.std.specs.Prelude.{◌≡◌, ◌≢◌, ℕ, zero, suc, ◌+◌, ◌*◌, ◌-◌, ◌^◌, ◌≤◌, List, [], ◌∷◌, ◌++◌}
+use Rattle.std.specs.Prelude.{length, take, Option, Some, None, Result, Ok, Err, ◌⊎◌}
 use Rattle.sv_prim.specs.Code.{IsCutShort, BreaksAt}
 use Rattle.sv_packet.specs.declared.event.Packet.{Packet}
 use Rattle.sv_packet.specs.declared.event.TimedEvent.{TimedEvent}
@@ -19,8 +20,9 @@ use Rattle.sv_packet.specs.Reason.{packet_reason}
 use Rattle.sv_packet.specs.Made.{HasList}
 use Rattle.sv_stream.specs.Stage.{IsSearched}
 
--- the bytes held, for how many there is memory, the stage of the input, what is known of the bytes held, how many bytes
--- of the input stand before them, and the time of the last event that was given
+-- the bytes held, for how many there is memory, the stage of the input, what is known of the bytes
+-- held, how many bytes of the input stand before them, and the time of the last event that was
+-- given
 pub record Decoding : Type 0 where
   pub held : List ℕ
   pub room : ℕ
@@ -36,9 +38,12 @@ pushed decoder = decoder.place + length decoder.held
 -- from a place of the input on the bytes are these values, and then a rest from another place on
 abbrev pub Passes : {V : Type 0} → (V → List ℕ → Type 0) → ℕ → List ℕ → List V → ℕ → List ℕ → Type 0
 Passes S start bytes [] place rest = (place ≡ start) × (bytes ≡ rest)
-Passes S start bytes (value ∷ values) place rest = (first : List ℕ) × (more : List ℕ) × S value first × (bytes ≡ first ++ more) × Passes S (start + length first) more values place rest
+Passes S start bytes (value ∷ values) place rest =
+    (first : List ℕ) × (more : List ℕ) × S value first × (bytes ≡ first ++ more) ×
+    Passes S (start + length first) more values place rest
 
--- the packets of the events that were given stand behind the zeros, and behind them the bytes that are held
+-- the packets of the events that were given stand behind the zeros, and behind them the bytes that
+-- are held
 pub record IsReading (decoder : Decoding) (input : List ℕ) (given : List TimedEvent) : Type 0 where
   pub start : ℕ
   pub body : List ℕ
@@ -87,10 +92,12 @@ IsThrough (Err NoMemory) = ⊥
 abbrev pub IsAhead : Ahead → List ℕ → ℕ → Type 0
 IsAhead Open held place = Unit {0}
 IsAhead Short held place = (held ≡ []) ⊎ IsCutShort IsPacket held
-IsAhead (Bad at reason) held place = (count : ℕ) × BreaksAt IsPacket held count × (at ≡ place + count) × packet_reason (take count held) reason
+IsAhead (Bad at reason) held place =
+    (count : ℕ) × BreaksAt IsPacket held count × (at ≡ place + count) ×
+    packet_reason (take count held) reason
 
--- what a decoder keeps: what it knows of the bytes held, and that its input has at most 2 ^ 33 bytes, so that its times
--- fit 64 bits, since each packet has two bytes at least
+-- what a decoder keeps: what it knows of the bytes held, and that its input has at most 2 ^ 33
+-- bytes, so that its times fit 64 bits, since each packet has two bytes at least
 pub record IsDecoder (held : List ℕ) (stage : Stage) (ahead : Ahead) (place time : ℕ) : Type 0 where
   pub known : IsAhead ahead held place
   pub within : place + length held ≤ 2 ^ 33
@@ -111,11 +118,14 @@ abbrev pub IsNextOf : List TimedEvent → List TimedEvent → TimedEvent → Typ
 IsNextOf given events event = (more : List TimedEvent) × (events ≡ given ++ event ∷ more)
 
 -- what `next` answers behind the events that were given, of an input with these events and this end
-abbrev pub IsNext : List TimedEvent → List TimedEvent → End → Result (Option TimedEvent) StreamFault → Type 0
+abbrev pub IsNext : List TimedEvent → List TimedEvent → End →
+    Result (Option TimedEvent) StreamFault → Type 0
 IsNext given events end (Ok (Some event)) = IsNextOf given events event
 IsNext given events end (Ok None) = (given ≡ events) × (IsDamaged end → ⊥)
-IsNext given events end (Err (Damaged place reason)) = (given ≡ events) × (end ≡ DamagedEnd place reason)
-IsNext given events end (Err NoMemory) = (event : TimedEvent) × IsNextOf given events event × HasList event.event
+IsNext given events end (Err (Damaged place reason)) =
+    (given ≡ events) × (end ≡ DamagedEnd place reason)
+IsNext given events end (Err NoMemory) =
+    (event : TimedEvent) × IsNextOf given events event × HasList event.event
 
 -- the end of an input that is not damaged, by how many bytes are held behind its last packet
 abbrev pub end_of : ℕ → End

@@ -1,8 +1,10 @@
 -- An input, seen whole: junk, ten zeros or more, values of a code one after another, and a rest.
--- A target sends ten zero bytes before its first packet (UM08027, synchronisation). That a longer run
--- of them is passed over whole, and that what stands before them may be anything, is this format's own rule.
--- S v b says that the bytes b spell the value v; Why b r says that r is the reason where no spelling goes on behind b.
-use Rattle.std.specs.Prelude.{◌≡◌, ◌≢◌, ℕ, ◌+◌, ◌≤◌, Bool, false, ◌||◌, nat_eq, List, [], ◌∷◌, ◌++◌, length, take, replicate, slice_get, None, Some, ◌⊎◌}
+-- A target sends ten zero bytes before its first packet (UM08027, synchronisation). That a longer
+-- run of them is passed over whole, and that what stands before them may be anything, is this
+-- format's own rule. S v b says that the bytes b spell the value v; Why b r says that r is the
+-- reason where no spelling goes on behind b.
+use Rattle.std.specs.Prelude.{◌≡◌, ◌≢◌, ℕ, ◌+◌, ◌≤◌, Bool, false, ◌||◌, nat_eq, List, [], ◌∷◌, ◌++◌}
+use Rattle.std.specs.Prelude.{length, take, replicate, slice_get, None, Some, ◌⊎◌}
 use Rattle.std.specs.List.{last_or, starts_with}
 use Rattle.sv_prim.specs.declared.got.Reason.{Reason}
 use Rattle.sv_prim.specs.Code.{IsCutShort, BreaksAt}
@@ -26,19 +28,25 @@ pub record IsSynced (bytes : List ℕ) (start : ℕ) (body : List ℕ) : Type 0 
   pub all : slice_get body 0 ≢ Some 0
 
 -- how an input ends whose rest begins with no value; the rest begins at the start
-abbrev pub EndsAt : {V : Type 0} → (V → List ℕ → Type 0) → (List ℕ → Reason → Type 0) → ℕ → List ℕ → End → Type 0
+abbrev pub EndsAt : {V : Type 0} → (V → List ℕ → Type 0) → (List ℕ → Reason → Type 0) → ℕ → List ℕ →
+    End → Type 0
 EndsAt S Why start rest Clean = rest ≡ []
 EndsAt S Why start rest (Truncated held) = (rest ≢ []) × IsCutShort S rest × (held ≡ length rest)
 EndsAt S Why start rest NoSync = ⊥
-EndsAt S Why start rest (Damaged place reason) = (count : ℕ) × BreaksAt S rest count × (place ≡ start + count) × Why (take count rest) reason
+EndsAt S Why start rest (Damaged place reason) =
+    (count : ℕ) × BreaksAt S rest count × (place ≡ start + count) × Why (take count rest) reason
 
 -- from the start on the bytes are these values, one after another, and then a rest with this end
-abbrev pub Goes : {V : Type 0} → (V → List ℕ → Type 0) → (List ℕ → Reason → Type 0) → ℕ → List ℕ → List V → End → Type 0
+abbrev pub Goes : {V : Type 0} → (V → List ℕ → Type 0) → (List ℕ → Reason → Type 0) → ℕ → List ℕ →
+    List V → End → Type 0
 Goes S Why start bytes [] end = EndsAt S Why start bytes end
-Goes S Why start bytes (value ∷ values) end = (first : List ℕ) × (rest : List ℕ) × S value first × (bytes ≡ first ++ rest) × Goes S Why (start + length first) rest values end
+Goes S Why start bytes (value ∷ values) end =
+    (first : List ℕ) × (rest : List ℕ) × S value first × (bytes ≡ first ++ rest) ×
+    Goes S Why (start + length first) rest values end
 
 -- no ten zeros in a row stand in the input, or it is junk, zeros, these values and a rest
-abbrev pub ReadsBy : {V : Type 0} → (V → List ℕ → Type 0) → (List ℕ → Reason → Type 0) → List ℕ → List V → End → Type 0
+abbrev pub ReadsBy : {V : Type 0} → (V → List ℕ → Type 0) → (List ℕ → Reason → Type 0) → List ℕ →
+    List V → End → Type 0
 ReadsBy S Why bytes values end =
     ((has_ten_zeros bytes ≡ false) × (values ≡ []) × (end ≡ NoSync))
     ⊎ ((start : ℕ) × (body : List ℕ) × IsSynced bytes start body × Goes S Why start body values end)

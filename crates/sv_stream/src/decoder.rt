@@ -134,7 +134,8 @@ impl Decoder {
     #[inline(always)]
     pub fn pass(&mut self, used: usize, time: u64)
         requires { (event : Event) × IsFront self.old used (record { time = time; event = event }) }
-        ensures stands { (event : Event) → IsFront self.old used (record { time = time; event = event }) →
+        ensures stands { (event : Event) →
+            IsFront self.old used (record { time = time; event = event }) →
             (input : List ℕ) → (given : List Timed) → StandsFor self.old input given →
             StandsFor self.new input (given ++ record { time = time; event = event } ∷ []) }
         ensures pushed { pushed self.new ≡ pushed self.old }

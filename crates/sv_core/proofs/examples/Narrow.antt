@@ -1,4 +1,5 @@
--- A run of one writer over a ring that is too short for a start's answers: an overflow within a section, and one before a call.
+-- A run of one writer over a ring that is too short for a start's answers: an overflow within a
+-- section, and one before a call.
 use Rattle.std.proofs.Common.{false, List, [], ◌∷◌, refl, arith, rules}
 use Rattle.sv_workload.specs.declared.load.Step.{Step}
 use Rattle.sv_workload.specs.Load.{Load}

@@ -1,4 +1,5 @@
--- Journals of the stopped run whose frees are not those of its order, and the run a section at a time.
+-- Journals of the stopped run whose frees are not those of its order, and the run a section at a
+-- time.
 use Rattle.std.proofs.Common.{◌≡◌, None, List, [], ◌∷◌, refl, arith, rules, All}
 use Rattle.std.proofs.lemmas.List.Elements.{All-nil, All-cons}
 use Rattle.sv_recorder.specs.declared.journal.Kind.TheVariants as kinds

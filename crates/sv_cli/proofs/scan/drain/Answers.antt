@@ -20,7 +20,8 @@ loop-front-preserved g c =
       given-more g.V.View.text g.V.View.shown c.args.decoder.now c.loop-front.decoder
           c.pass.new.self c.args.view.now c.loop-front.view c.event.new.self
           c.args.lines.now.items c.loop-front.lines.items c.event.new.lines.items events event
-          c.loop-front.invariant.1 (c.pass.ensures.stands (seen front.event) c.in-Some.ensures.front)
+          c.loop-front.invariant.1
+          (c.pass.ensures.stands (seen front.event) c.in-Some.ensures.front)
           c.in_ok-event.ensures.shown c.in_ok-event.ensures.line c.pass.ensures.fewer
           c.pass.ensures.pushed,
     )

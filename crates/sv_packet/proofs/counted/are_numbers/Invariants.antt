@@ -4,4 +4,5 @@ use Rattle.sv_packet.specs.Reader.{Takes}
 use Rattle.sv_packet.proofs.counted.are_numbers.Given as goal
 
 abbrev pub invariant-loop : goal.invariant-loop
-invariant-loop l = (numbers : List ℕ) × Takes (AreNumbers l.counter) l.initial.reader l.reader numbers
+invariant-loop l =
+    (numbers : List ℕ) × Takes (AreNumbers l.counter) l.initial.reader l.reader numbers

@@ -6,10 +6,18 @@ use Rattle.sv_packet.proofs.Spelled.{packet_spelled}
 use Rattle.sv_packet.proofs.encoding.encode.Goals as goal
 
 pub put_packet-requires-clause-room : goal.put_packet-requires-clause-room
-put_packet-requires-clause-room c = omega (arith, payload_small c.args.event.now c.requires.recordable.texts c.requires.recordable.short, ap length c.requires.empty)
+put_packet-requires-clause-room c = omega (
+  arith,
+  payload_small c.args.event.now c.requires.recordable.texts c.requires.recordable.short,
+  ap length c.requires.empty,
+)
 
 pub returns-clause-packet : goal.returns-clause-packet
 returns-clause-packet c =
-    let written = c.put_packet.ensures.written ∙ ap (λ (k : List ℕ). k ++ spelling_of c.args.event.now c.args.delta) c.requires.empty in
+    let written =
+    c.put_packet.ensures.written
+    ∙ ap (λ (k : List ℕ). k ++ spelling_of c.args.event.now c.args.delta)
+    c.requires.empty in
     subst (IsPacket (record { event = c.args.event.now; delta = c.args.delta })) (sym written)
-    (packet_spelled (record { event = c.args.event.now; delta = c.args.delta }) c.put_packet.ensures.range c.requires.recordable.valid c.ranges.delta.fits)
+    (packet_spelled (record { event = c.args.event.now; delta = c.args.delta })
+    c.put_packet.ensures.range c.requires.recordable.valid c.ranges.delta.fits)

@@ -11,5 +11,11 @@ returns c = λ packet more range valid fits.
     let s = spelling_of packet.event packet.delta in
     record {
       within = omega (arith, length-append s more);
-      spelled = subst (IsPacket packet) (sym (take-append_seam s more)) ((packet_law packet s).1 (range, valid, fits, refl));
+      spelled =
+          subst (IsPacket packet) (sym (take-append_seam s more)) ((packet_law packet s).1 (
+            range,
+            valid,
+            fits,
+            refl,
+          ));
     }

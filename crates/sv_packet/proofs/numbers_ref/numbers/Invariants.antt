@@ -4,4 +4,6 @@ use Rattle.sv_packet.specs.Reader.{Takes}
 use Rattle.sv_packet.proofs.numbers_ref.numbers.Given as goal
 
 abbrev pub invariant-loop : goal.invariant-loop
-invariant-loop l = (vec_len l.items ≡ l.counter) × (l.count ≤ vec_capacity l.items) × Takes (AreNumbers l.counter) l.initial.reader l.reader l.items.items
+invariant-loop l =
+    (vec_len l.items ≡ l.counter) × (l.count ≤ vec_capacity l.items) ×
+    Takes (AreNumbers l.counter) l.initial.reader l.reader l.items.items

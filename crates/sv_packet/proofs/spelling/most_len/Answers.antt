@@ -29,11 +29,23 @@ returns-in-Print-clause-bound c =
     let text = c.in-Print.text in
     let args = c.in-Print.args in
     let valid = subst IsValid c.in-Print.is c.requires in
-    let small : length (print_payload text c.in-Print.options args) ≤ 16383 = valid.payload (omega arith) in
-    omega (arith, small, valid.texts.0, print_len text c.in-Print.options args, ap length c.bytes-in-Print.ensures.items, c.numbers_len.ensures.len, ap (λ k. length (numbers_spelling k)) c.numbers.ensures.items)
+    let small : length (print_payload text c.in-Print.options args) ≤ 16383 =
+    valid.payload (omega arith) in
+    omega (
+      arith,
+      small,
+      valid.texts.0,
+      print_len text c.in-Print.options args,
+      ap length c.bytes-in-Print.ensures.items,
+      c.numbers_len.ensures.len,
+      ap (λ k. length (numbers_spelling k)) c.numbers.ensures.items,
+    )
 
 pub returns-in_default : goal.returns-in_default
 returns-in_default c = record {
-  len = numbers_small c.args.event.now c.in_default.not-TaskInfo c.in_default.not-SysDesc c.in_default.not-ModuleDesc c.in_default.not-NameResource c.in_default.not-Print c.in_default.not-Opaque;
+  len =
+      numbers_small c.args.event.now c.in_default.not-TaskInfo c.in_default.not-SysDesc
+      c.in_default.not-ModuleDesc c.in_default.not-NameResource c.in_default.not-Print
+      c.in_default.not-Opaque;
   bound = omega arith;
 }

@@ -9,24 +9,38 @@ use Rattle.sv_prim.proofs.text.get_text.Goals as goal
 
 pub returns-then-is_empty-clause-told : goal.returns-then-is_empty-clause-told
 returns-then-is_empty-clause-told c =
-    let none : c.args.bytes.now ≡ [] = nil_from_length c.args.bytes.now (eqb-true _ _ (sym c.if-is_empty.ensures)) in
+    let none : c.args.bytes.now ≡ [] =
+    nil_from_length c.args.bytes.now (eqb-true _ _ (sym c.if-is_empty.ensures)) in
     subst (IsCutShort IsTextAt) (sym none) (at_short [] none_short)
 
 pub returns-then-bytes-lt255-clause-only : goal.returns-then-bytes-lt255-clause-only
-returns-then-bytes-lt255-clause-only c = at_only c.args.bytes.now c.text_from.result c.text_from.ensures
+returns-then-bytes-lt255-clause-only c =
+    at_only c.args.bytes.now c.text_from.result c.text_from.ensures
 
 pub returns-then-bytes-lt3-clause-told : goal.returns-then-bytes-lt3-clause-told
-returns-then-bytes-lt3-clause-told c = length_short c.args.bytes.now (are_bytes c.args.bytes.now c.type_inv.bytes) c.if-bytes-lt3.true (λ some. omega (arith, c.if-bytes-lt255.false))
+returns-then-bytes-lt3-clause-told c =
+    length_short c.args.bytes.now (are_bytes c.args.bytes.now c.type_inv.bytes) c.if-bytes-lt3.true
+    (λ some. omega (arith, c.if-bytes-lt255.false))
 
 pub returns-then-bytes-lt3-clause-only : goal.returns-then-bytes-lt3-clause-only
-returns-then-bytes-lt3-clause-only c = at_only c.args.bytes.now _ (returns-then-bytes-lt3-clause-told c)
+returns-then-bytes-lt3-clause-only c =
+    at_only c.args.bytes.now _ (returns-then-bytes-lt3-clause-told c)
 
 pub returns-then-len-lt255-clause-told : goal.returns-then-len-lt255-clause-told
-returns-then-len-lt255-clause-told c =
-    (length_breaks c.args.bytes.now (are_bytes c.args.bytes.now c.type_inv.bytes) (omega (arith, c.if-bytes-lt3.false)) (omega (arith, c.if-bytes-lt255.false)) (omega (arith, c.if-len-lt255.true, c.from-2.ensures, c.from-3.ensures)), refl)
+returns-then-len-lt255-clause-told c = (
+  length_breaks c.args.bytes.now (are_bytes c.args.bytes.now c.type_inv.bytes)
+      (omega (arith, c.if-bytes-lt3.false)) (omega (arith, c.if-bytes-lt255.false)) (omega (
+        arith,
+        c.if-len-lt255.true,
+        c.from-2.ensures,
+        c.from-3.ensures,
+      )),
+  refl,
+)
 
 pub returns-then-len-lt255-clause-only : goal.returns-then-len-lt255-clause-only
-returns-then-len-lt255-clause-only c = at_only c.args.bytes.now _ (returns-then-len-lt255-clause-told c)
+returns-then-len-lt255-clause-only c =
+    at_only c.args.bytes.now _ (returns-then-len-lt255-clause-told c)
 
 pub returns-clause-only : goal.returns-clause-only
 returns-clause-only c = at_only c.args.bytes.now c.text_from-2.result c.text_from-2.ensures

@@ -10,4 +10,6 @@ pub returns-clause-exists : goal.returns-clause-exists
 returns-clause-exists c = reads_exists IsPacket packet_reason readable packet_total
 
 pub returns-clause-once : goal.returns-clause-once
-returns-clause-once c = λ input packets others end other. reads_once IsPacket packet_reason readable input packets others end other
+returns-clause-once c =
+    λ input packets others end other.
+    reads_once IsPacket packet_reason readable input packets others end other

@@ -10,7 +10,8 @@ invariant_of-result c =
 pub unreachable-requires : goal.unreachable-requires
 unreachable-requires c =
     not_first c.self.inside.count
-    (record { bytes = c.self.inside.bytes; at = 0; within = omega arith }) c.in-Err.field-0 refl (omega (arith, c.if-self-eq0.false))
+    (record { bytes = c.self.inside.bytes; at = 0; within = omega arith }) c.in-Err.field-0 refl
+    (omega (arith, c.if-self-eq0.false))
     c.self.invariant c.in-Err.ensures
 
 pub returns : goal.returns

@@ -9,6 +9,13 @@ returns-clause-stands c =
     let before = c.search-stage.result.1 in
     let held = c.self.inside.held.items in
     let more = held ++ drop before c.args.piece.now in
-    let is = ap (λ (t : Bool). if t then more else held) (c.is_err.ensures.negation ∙ ap not c.if-is_err.false) in
+    let is =
+    ap (λ (t : Bool). if t then more else held)
+    (c.is_err.ensures.negation ∙ ap not c.if-is_err.false) in
     behind_stands c.args.self.now (the_view c.self.inside) _ c.args.piece.now before c.self.view_is
-    (record { within = c.search-stage.ensures.within; held = c.append.ensures.items ∙ is; place = refl; time = refl }) c.search-stage.ensures.found c.search-stage.ensures.body
+    (record {
+      within = c.search-stage.ensures.within;
+      held = c.append.ensures.items ∙ is;
+      place = refl;
+      time = refl;
+    }) c.search-stage.ensures.found c.search-stage.ensures.body

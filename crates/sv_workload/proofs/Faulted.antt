@@ -44,7 +44,8 @@ room lines line known =
     ap (λ (b : Bool). b && is_full_for (modules_of lines) (number line 0))
     (not_later (Setup Module) line.keyword refl known)
 
-module _ (check : Check) (fault : LineFault) (more : List (Check × LineFault)) (lines : List Line) (line : Line) where
+module _ (check : Check) (fault : LineFault) (more : List (Check × LineFault)) (lines : List Line)
+    (line : Line) where
   found_by : (b : Bool) (rest : Option (Check × LineFault)) → b ≡ true → option_map
       (λ (c : Check × LineFault). c.1) (cond b (Some (check, fault)) rest) ≡ Some fault
   found_by true rest e = refl

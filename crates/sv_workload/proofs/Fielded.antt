@@ -104,14 +104,16 @@ pub shaped : (form : Form) (words : List (List ℕ))
 shaped form words = shaped_by form form.text words refl
 
 -- what two passes with this form tell of these words
-pub record Tells (form : Form) (words : List (List ℕ)) (numbers text : List ℕ) (shaped ranged : Bool) : Type 0 where
+pub record Tells (form : Form) (words : List (List ℕ)) (numbers text : List ℕ)
+    (shaped ranged : Bool) : Type 0 where
   pub numbers_are : numbers ≡ map capped (map (λ word. unwrap_or (number_of word) 0)
       (take (length form.numbers + length form.more) words))
   pub text_is : text ≡ join_with_byte 32 (drop (length form.numbers) words)
   pub shaped_is : shaped ≡ fits form words (join_with_byte 32 (drop (length form.numbers) words))
   pub ranged_is : ranged ≡ are_within (form.numbers ++ form.more) words
 
-module _ (form : Form) (words : List (List ℕ)) (first second : State) (text : List ℕ) (all ended : Bool) where
+module _ (form : Form) (words : List (List ℕ)) (first second : State) (text : List ℕ)
+    (all ended : Bool) where
   pub told : first ≡ the_state (map counts_as (take (length form.numbers) words))
       (list_all is_word (take (length form.numbers) words)) (are_within form.numbers words)
       (drop (length form.numbers) words)

@@ -214,7 +214,8 @@ module _ (old new : Draft) (lines : List Line) (line : Line) (stands : Stands ol
   }
 
 -- a line that tells a setting stands before the scripts
-module _ (old : Draft) (lines : List Line) (line : Line) (stands : Stands old lines) (passed : Passes lines line) where
+module _ (old : Draft) (lines : List Line) (line : Line) (stands : Stands old lines)
+    (passed : Passes lines line) where
   no_writer : (word : SetupWord) → line.keyword ≡ keyword.Setup word → is_there keyword.Writer lines
       ≡ false
   no_writer word e = no_writer_yet (is_there keyword.Writer lines)

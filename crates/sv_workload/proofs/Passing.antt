@@ -45,7 +45,8 @@ passed_more ranges place d word words values filled ranged within =
     within
 
 -- what the whole pass leaves
-pub record Leaves (end : State) (ranges : List Range) (words : List (List ℕ)) (values : List ℕ) (filled ranged : Bool) : Type 0 where
+pub record Leaves (end : State) (ranges : List Range) (words : List (List ℕ)) (values : List ℕ)
+    (filled ranged : Bool) : Type 0 where
   pub values_are : end.values ≡ values ++ map counts_as (take (length ranges) words)
   pub filled_is : end.filled ≡ (filled && list_all is_word (take (length ranges) words))
   pub ranged_is : end.ranged ≡ (ranged && are_within ranges words)
@@ -80,7 +81,8 @@ leaves (range ∷ ranges) (word ∷ words) values filled ranged =
       words_are = rest.words_are;
     }
 
-module _ (ranges : List Range) (words : List (List ℕ)) (values : List ℕ) (filled ranged : Bool) (now : State) where
+module _ (ranges : List Range) (words : List (List ℕ)) (values : List ℕ) (filled ranged : Bool)
+    (now : State) where
   -- the pass stops where there are no words
   pub ended : (left : List Range) → now.words ≡ []
       → passed left now.words now.values now.filled now.ranged ≡

@@ -83,7 +83,8 @@ acts_left lines Print e = (e, λ is. cc)
 acts_left lines Call e = (e, λ is. cc)
 acts_left lines Return e = (e, λ is. cc)
 
-module _ (old : Draft) (lines : List Line) (line : Line) (stands : Stands old lines) (passed : Passes lines line) where
+module _ (old : Draft) (lines : List Line) (line : Line) (stands : Stands old lines)
+    (passed : Passes lines line) where
   pub room_for_task : line.keyword ≡ keyword.Setup setup.Task → length old.tasks < 32
   room_for_task e =
       let left : count (keyword.Setup setup.Task) lines < 32 = fewer 32
@@ -200,7 +201,8 @@ tells line word fit is e =
     }
 
 -- a draft with one more setting
-module _ (old : Draft) (lines : List Line) (line : Line) (stands : Stands old lines) (passed : Passes lines line) where
+module _ (old : Draft) (lines : List Line) (line : Line) (stands : Stands old lines)
+    (passed : Passes lines line) where
   pub told : (word : SetupWord) → TellsOne word → line.keyword ≡ keyword.Setup word → Stands
       (record old { settings = tell word (capped (number line 0)) old.settings })
       (lines ++ line ∷ [])
@@ -232,7 +234,8 @@ read_inside line fit e =
     (in_ranges line (keyword.Turn turn.Read) e fit))
 
 -- a writer's number is small, since the writer is there
-module _ (old : Draft) (lines : List Line) (line : Line) (stands : Stands old lines) (passed : Passes lines line) (few : length old.scripts ≤ 16) (fit : IsFit line) where
+module _ (old : Draft) (lines : List Line) (line : Line) (stands : Stands old lines)
+    (passed : Passes lines line) (few : length old.scripts ≤ 16) (fit : IsFit line) where
   low_step : line.keyword ≡ keyword.Turn turn.Step → number line 0 < 2 ^ 32
   low_step e = omega (arith, less_than_writers old lines line stands passed e, few)
 

@@ -52,7 +52,8 @@ pub counted_onto : (scripts : List (List Step)) (step : Step)
     → more_starts ≡ one_if (is_start_act step.act) → more_bytes ≡ act_bytes step.act → more_bytes ≤
     153 → AreCounted (onto_last step scripts) (steps + 1) (starts + more_starts)
     (bytes + more_bytes)
-counted_onto scripts step steps starts bytes more_starts more_bytes is some few few_starts advance act started counted most =
+counted_onto scripts step steps starts bytes more_starts more_bytes is some few few_starts advance
+    act started counted most =
     record {
       few_scripts = omega (arith, length_onto step scripts, is.few_scripts);
       steps_is = omega (arith, is.steps_is, over_last (λ (s : Step). 1) step scripts some);

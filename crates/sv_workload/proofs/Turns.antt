@@ -61,7 +61,8 @@ count_in (writer ∷ word ∷ words) e =
     let this = and_parts (is_within (between 1 1048576) word) (are_within [] words) both.1 in
     within 1 1048576 (number_of word) this.0
 
-module _ (draft : Draft) (lines : List Line) (line : Line) (stands : Stands draft lines) (passed : Passes lines line) (fit : IsFit line) where
+module _ (draft : Draft) (lines : List Line) (line : Line) (stands : Stands draft lines)
+    (passed : Passes lines line) (fit : IsFit line) where
   step_turn : (action : Action) → line.keyword ≡ keyword.Turn turn.Step → Some action ≡ action_of
       line → IsTurn (length draft.scripts) action
   step_turn action e made =

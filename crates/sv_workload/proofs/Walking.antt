@@ -116,7 +116,8 @@ walk_begins text = record {
   };
 }
 
-module _ (text old line rest : List ℕ) (draft : Draft) (number : ℕ) (walk : Walk text old draft number) (next : IsNext old line rest) where
+module _ (text old line rest : List ℕ) (draft : Draft) (number : ℕ)
+    (walk : Walk text old draft number) (next : IsNext old line rest) where
   pub walk_goes_on : (new : Draft) → fault_at walk.before line ≡ None → Stands new
       (said (walk.before ++ line ∷ [])) → Walk text rest new (number + 1)
   walk_goes_on new good stands = record {

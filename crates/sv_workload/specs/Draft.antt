@@ -30,7 +30,8 @@ pub record Draft : Type 0 where
   pub schedule : List Action
 
 -- the settings, tasks and turns are of their ranges, and the tasks, writers and turns are few
-pub record IsSound (settings : Settings) (tasks : List Task) (scripts : List (List Step)) (schedule : List Action) : Type 0 where
+pub record IsSound (settings : Settings) (tasks : List Task) (scripts : List (List Step))
+    (schedule : List Action) : Type 0 where
   pub ranges : AreInRange settings
   pub few_tasks : length tasks ≤ 32
   pub tasks_are : All IsTask tasks

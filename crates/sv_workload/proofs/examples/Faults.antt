@@ -1,7 +1,10 @@
--- Texts with a fault, one for each way to have it, and pairs of faults in one line, of which the first counts.
+-- Texts with a fault, one for each way to have it, and pairs of faults in one line, of which the
+-- first counts.
 use Rattle.std.specs.Prelude.{codes}
 use Rattle.std.proofs.Common.{◌≡◌, ◌∷◌, [], ◌++◌, refl, Some}
-use Rattle.sv_workload.specs.declared.fault.LineFault.TheVariants.{UnknownWord, Shape, Number, Repeated, TooMany, Unaligned, Misplaced, BadText, NoSuchWriter}
+use Rattle.sv_workload.specs.declared.fault.LineFault.TheVariants.{UnknownWord, Shape, Number}
+use Rattle.sv_workload.specs.declared.fault.LineFault.TheVariants.{Repeated, TooMany, Unaligned}
+use Rattle.sv_workload.specs.declared.fault.LineFault.TheVariants.{Misplaced, BadText, NoSuchWriter}
 use Rattle.sv_workload.specs.Grammar.{first_fault}
 
 -- the worked refusals
@@ -67,7 +70,8 @@ a_turn_without_schedule = refl
 a_base_behind_a_task : first_fault (codes "task 536870912 0 0 0 0 M\nbase 5") ≡ Some (2, Misplaced)
 a_base_behind_a_task = refl
 
-a_shift_behind_a_task : first_fault (codes "task 536870912 0 0 0 0 M\nshift 2") ≡ Some (2, Misplaced)
+a_shift_behind_a_task : first_fault (codes "task 536870912 0 0 0 0 M\nshift 2")
+    ≡ Some (2, Misplaced)
 a_shift_behind_a_task = refl
 
 a_second_schedule : first_fault (codes "writer\nschedule\nschedule") ≡ Some (3, Misplaced)
@@ -169,10 +173,14 @@ a_read_of_none = refl
 
 -- texts
 
-a_name_of_33_bytes : first_fault (codes "task 536870912 0 0 0 0 nnnnnnnnnnnnnnnnnnnnnnnnnnnnnnnnn") ≡ Some (1, BadText)
+a_name_of_33_bytes : first_fault (codes "task 536870912 0 0 0 0 nnnnnnnnnnnnnnnnnnnnnnnnnnnnnnnnn")
+    ≡ Some (1, BadText)
 a_name_of_33_bytes = refl
 
-a_print_of_129_bytes : first_fault (codes "writer\n1 print ppppppppppppppppppppppppppppppppppppppppppppppppppppppppppppppppppppppppppppppppppppppppppppppppppppppppppppppppppppppppppppppppp") ≡ Some (2, BadText)
+a_print_of_129_bytes :
+    first_fault
+    (codes
+    "writer\n1 print ppppppppppppppppppppppppppppppppppppppppppppppppppppppppppppppppppppppppppppppppppppppppppppppppppppppppppppppppppppppppppppppppp") ≡ Some (2, BadText)
 a_print_of_129_bytes = refl
 
 -- identifiers
@@ -191,15 +199,22 @@ a_wider_shift = refl
 a_ring_again : first_fault (codes "ring 64\nring 64") ≡ Some (2, Repeated)
 a_ring_again = refl
 
-a_task_again : first_fault (codes "task 536870912 0 0 0 0 M\ntask 536870912 1 2 3 4 N") ≡ Some (2, Repeated)
+a_task_again : first_fault (codes "task 536870912 0 0 0 0 M\ntask 536870912 1 2 3 4 N")
+    ≡ Some (2, Repeated)
 a_task_again = refl
 
 -- one too many
 
-a_seventeenth_writer : first_fault (codes "writer\nwriter\nwriter\nwriter\nwriter\nwriter\nwriter\nwriter\nwriter\nwriter\nwriter\nwriter\nwriter\nwriter\nwriter\nwriter\nwriter") ≡ Some (17, TooMany)
+a_seventeenth_writer :
+    first_fault
+    (codes
+    "writer\nwriter\nwriter\nwriter\nwriter\nwriter\nwriter\nwriter\nwriter\nwriter\nwriter\nwriter\nwriter\nwriter\nwriter\nwriter\nwriter") ≡ Some (17, TooMany)
 a_seventeenth_writer = refl
 
-a_33rd_task : first_fault (codes "task 536870912 0 0 0 0 M\ntask 536870916 0 0 0 0 M\ntask 536870920 0 0 0 0 M\ntask 536870924 0 0 0 0 M\ntask 536870928 0 0 0 0 M\ntask 536870932 0 0 0 0 M\ntask 536870936 0 0 0 0 M\ntask 536870940 0 0 0 0 M\ntask 536870944 0 0 0 0 M\ntask 536870948 0 0 0 0 M\ntask 536870952 0 0 0 0 M\ntask 536870956 0 0 0 0 M\ntask 536870960 0 0 0 0 M\ntask 536870964 0 0 0 0 M\ntask 536870968 0 0 0 0 M\ntask 536870972 0 0 0 0 M\ntask 536870976 0 0 0 0 M\ntask 536870980 0 0 0 0 M\ntask 536870984 0 0 0 0 M\ntask 536870988 0 0 0 0 M\ntask 536870992 0 0 0 0 M\ntask 536870996 0 0 0 0 M\ntask 536871000 0 0 0 0 M\ntask 536871004 0 0 0 0 M\ntask 536871008 0 0 0 0 M\ntask 536871012 0 0 0 0 M\ntask 536871016 0 0 0 0 M\ntask 536871020 0 0 0 0 M\ntask 536871024 0 0 0 0 M\ntask 536871028 0 0 0 0 M\ntask 536871032 0 0 0 0 M\ntask 536871036 0 0 0 0 M\ntask 536871040 0 0 0 0 M") ≡ Some (33, TooMany)
+a_33rd_task :
+    first_fault
+    (codes
+    "task 536870912 0 0 0 0 M\ntask 536870916 0 0 0 0 M\ntask 536870920 0 0 0 0 M\ntask 536870924 0 0 0 0 M\ntask 536870928 0 0 0 0 M\ntask 536870932 0 0 0 0 M\ntask 536870936 0 0 0 0 M\ntask 536870940 0 0 0 0 M\ntask 536870944 0 0 0 0 M\ntask 536870948 0 0 0 0 M\ntask 536870952 0 0 0 0 M\ntask 536870956 0 0 0 0 M\ntask 536870960 0 0 0 0 M\ntask 536870964 0 0 0 0 M\ntask 536870968 0 0 0 0 M\ntask 536870972 0 0 0 0 M\ntask 536870976 0 0 0 0 M\ntask 536870980 0 0 0 0 M\ntask 536870984 0 0 0 0 M\ntask 536870988 0 0 0 0 M\ntask 536870992 0 0 0 0 M\ntask 536870996 0 0 0 0 M\ntask 536871000 0 0 0 0 M\ntask 536871004 0 0 0 0 M\ntask 536871008 0 0 0 0 M\ntask 536871012 0 0 0 0 M\ntask 536871016 0 0 0 0 M\ntask 536871020 0 0 0 0 M\ntask 536871024 0 0 0 0 M\ntask 536871028 0 0 0 0 M\ntask 536871032 0 0 0 0 M\ntask 536871036 0 0 0 0 M\ntask 536871040 0 0 0 0 M") ≡ Some (33, TooMany)
 a_33rd_task = refl
 
 -- no such writer
@@ -207,10 +222,12 @@ a_33rd_task = refl
 a_second_writer_of_one : first_fault (codes "writer\nschedule\nstep 1") ≡ Some (3, NoSuchWriter)
 a_second_writer_of_one = refl
 
-a_writer_past_32_bits : first_fault (codes "writer\nschedule\nstep 4294967296") ≡ Some (3, NoSuchWriter)
+a_writer_past_32_bits : first_fault (codes "writer\nschedule\nstep 4294967296")
+    ≡ Some (3, NoSuchWriter)
 a_writer_past_32_bits = refl
 
-a_writer_past_64_bits : first_fault (codes "writer\nschedule\nstep 99999999999999999999999") ≡ Some (3, NoSuchWriter)
+a_writer_past_64_bits : first_fault (codes "writer\nschedule\nstep 99999999999999999999999")
+    ≡ Some (3, NoSuchWriter)
 a_writer_past_64_bits = refl
 
 -- the first line with a fault, and remarks before it
@@ -221,7 +238,8 @@ the_first_line_counts = refl
 remarks_are_counted : first_fault (codes "; a\n\n\nring 63") ≡ Some (4, Number)
 remarks_are_counted = refl
 
-remarks_behind_schedule : first_fault (codes "writer\nschedule\n; step\n\nstep 1") ≡ Some (5, NoSuchWriter)
+remarks_behind_schedule : first_fault (codes "writer\nschedule\n; step\n\nstep 1")
+    ≡ Some (5, NoSuchWriter)
 remarks_behind_schedule = refl
 
 -- bytes that can't be printed
@@ -249,7 +267,8 @@ misplaced_before_number = refl
 misplaced_before_unaligned : first_fault (codes "writer\nschedule\n1 run 1") ≡ Some (3, Misplaced)
 misplaced_before_unaligned = refl
 
-misplaced_before_repeated : first_fault (codes "base 0\ntask 4 0 0 0 0 M\nbase 0") ≡ Some (3, Misplaced)
+misplaced_before_repeated : first_fault (codes "base 0\ntask 4 0 0 0 0 M\nbase 0")
+    ≡ Some (3, Misplaced)
 misplaced_before_repeated = refl
 
 shape_before_number : first_fault (codes "ring 63 ") ≡ Some (1, Shape)
@@ -267,7 +286,8 @@ shape_before_repeated = refl
 shape_before_writer : first_fault (codes "writer\nschedule\nstep 5 1 1") ≡ Some (3, Shape)
 shape_before_writer = refl
 
-number_before_text : first_fault (codes "task x 0 0 0 0 nnnnnnnnnnnnnnnnnnnnnnnnnnnnnnnnn") ≡ Some (1, Number)
+number_before_text : first_fault (codes "task x 0 0 0 0 nnnnnnnnnnnnnnnnnnnnnnnnnnnnnnnnn")
+    ≡ Some (1, Number)
 number_before_text = refl
 
 number_before_unaligned : first_fault (codes "task 1 x 0 0 0 M") ≡ Some (1, Number)
@@ -279,14 +299,22 @@ number_before_repeated = refl
 number_before_writer : first_fault (codes "writer\nschedule\nstep 1 0") ≡ Some (3, Number)
 number_before_writer = refl
 
-text_before_unaligned : first_fault (codes "task 536870913 0 0 0 0 nnnnnnnnnnnnnnnnnnnnnnnnnnnnnnnnn") ≡ Some (1, BadText)
+text_before_unaligned :
+    first_fault (codes "task 536870913 0 0 0 0 nnnnnnnnnnnnnnnnnnnnnnnnnnnnnnnnn")
+    ≡ Some (1, BadText)
 text_before_unaligned = refl
 
-text_before_repeated : first_fault (codes "base 0\ntask 4 0 0 0 0 M\ntask 4 0 0 0 0 nnnnnnnnnnnnnnnnnnnnnnnnnnnnnnnnn") ≡ Some (3, BadText)
+text_before_repeated :
+    first_fault (codes "base 0\ntask 4 0 0 0 0 M\ntask 4 0 0 0 0 nnnnnnnnnnnnnnnnnnnnnnnnnnnnnnnnn")
+    ≡ Some (3, BadText)
 text_before_repeated = refl
 
-unaligned_before_repeated : first_fault (codes "base 0\ntask 4 0 0 0 0 M\ntask 5 0 0 0 0 M") ≡ Some (3, Unaligned)
+unaligned_before_repeated : first_fault (codes "base 0\ntask 4 0 0 0 0 M\ntask 5 0 0 0 0 M")
+    ≡ Some (3, Unaligned)
 unaligned_before_repeated = refl
 
-repeated_before_too_many : first_fault (codes "task 536870912 0 0 0 0 M\ntask 536870916 0 0 0 0 M\ntask 536870920 0 0 0 0 M\ntask 536870924 0 0 0 0 M\ntask 536870928 0 0 0 0 M\ntask 536870932 0 0 0 0 M\ntask 536870936 0 0 0 0 M\ntask 536870940 0 0 0 0 M\ntask 536870944 0 0 0 0 M\ntask 536870948 0 0 0 0 M\ntask 536870952 0 0 0 0 M\ntask 536870956 0 0 0 0 M\ntask 536870960 0 0 0 0 M\ntask 536870964 0 0 0 0 M\ntask 536870968 0 0 0 0 M\ntask 536870972 0 0 0 0 M\ntask 536870976 0 0 0 0 M\ntask 536870980 0 0 0 0 M\ntask 536870984 0 0 0 0 M\ntask 536870988 0 0 0 0 M\ntask 536870992 0 0 0 0 M\ntask 536870996 0 0 0 0 M\ntask 536871000 0 0 0 0 M\ntask 536871004 0 0 0 0 M\ntask 536871008 0 0 0 0 M\ntask 536871012 0 0 0 0 M\ntask 536871016 0 0 0 0 M\ntask 536871020 0 0 0 0 M\ntask 536871024 0 0 0 0 M\ntask 536871028 0 0 0 0 M\ntask 536871032 0 0 0 0 M\ntask 536871036 0 0 0 0 M\ntask 536870932 0 0 0 0 M") ≡ Some (33, Repeated)
+repeated_before_too_many :
+    first_fault
+    (codes
+    "task 536870912 0 0 0 0 M\ntask 536870916 0 0 0 0 M\ntask 536870920 0 0 0 0 M\ntask 536870924 0 0 0 0 M\ntask 536870928 0 0 0 0 M\ntask 536870932 0 0 0 0 M\ntask 536870936 0 0 0 0 M\ntask 536870940 0 0 0 0 M\ntask 536870944 0 0 0 0 M\ntask 536870948 0 0 0 0 M\ntask 536870952 0 0 0 0 M\ntask 536870956 0 0 0 0 M\ntask 536870960 0 0 0 0 M\ntask 536870964 0 0 0 0 M\ntask 536870968 0 0 0 0 M\ntask 536870972 0 0 0 0 M\ntask 536870976 0 0 0 0 M\ntask 536870980 0 0 0 0 M\ntask 536870984 0 0 0 0 M\ntask 536870988 0 0 0 0 M\ntask 536870992 0 0 0 0 M\ntask 536870996 0 0 0 0 M\ntask 536871000 0 0 0 0 M\ntask 536871004 0 0 0 0 M\ntask 536871008 0 0 0 0 M\ntask 536871012 0 0 0 0 M\ntask 536871016 0 0 0 0 M\ntask 536871020 0 0 0 0 M\ntask 536871024 0 0 0 0 M\ntask 536871028 0 0 0 0 M\ntask 536871032 0 0 0 0 M\ntask 536871036 0 0 0 0 M\ntask 536870932 0 0 0 0 M") ≡ Some (33, Repeated)
 repeated_before_too_many = refl

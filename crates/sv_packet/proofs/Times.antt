@@ -20,10 +20,10 @@ abbrev pub event_at : List Packet × Packet → TimedEvent
 event_at at = record { time = time_of (at.0 ++ at.1 ∷ []); event = at.1.event }
 
 -- the events of packets that come behind others
-abbrev pub timed_behind : List Packet → List Packet → List TimedEvent
-timed_behind before packets = map event_at (with_before_from before packets)
+abbrev pub timed_after : List Packet → List Packet → List TimedEvent
+timed_after before packets = map event_at (with_before_from before packets)
 
-pub timed-append : (ps qs : List Packet) → timed (ps ++ qs) ≡ timed ps ++ timed_behind ps qs
+pub timed-append : (ps qs : List Packet) → timed (ps ++ qs) ≡ timed ps ++ timed_after ps qs
 timed-append ps qs =
     ap (map event_at) (with_before_from-append [] ps qs)
     ∙ map-append event_at (with_before ps) (with_before_from ps qs)

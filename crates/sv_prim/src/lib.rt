@@ -1,11 +1,11 @@
 //! Numbers and texts as the trace protocol spells them, and what can be told of the front of some
 //! bytes.
 //!
-//! The contract above this crate: a number and a text have exactly one spelling each. [`get_u32`]
-//! and [`get_text`] say of any bytes whether they begin with one, end inside one, or break off at
-//! which byte. [`put_u32`] and [`put_text`] add that spelling to a packet, and [`number_spelled`]
-//! is the law that a number has no other. Beside them stands the arithmetic of ticks ([`delta`])
-//! and of identifiers ([`shrink`], [`unshrink`], [`aligned`]).
+//! The contract above this crate: [`get_u32`] and [`get_text`] say of any bytes whether they begin
+//! with a number or a text, end inside one, or break off at which byte. [`put_u32`] and
+//! [`put_text`] add a spelling to a packet, and [`number_spelled`] is the law that a number has no
+//! other. Beside them stands the arithmetic of ticks ([`delta`]) and of identifiers ([`shrink`],
+//! [`unshrink`], [`aligned`]).
 #![tactic(auto)]
 
 mod buf;

@@ -25,7 +25,7 @@ use Rattle.sv_stream.proofs.Packets.{readable}
 use Rattle.sv_stream.proofs.Sizes.{two_bytes}
 use Rattle.sv_prim.proofs.Shared.{begins_not_breaks}
 use Rattle.sv_stream.proofs.Telling.{less_begins_none}
-use Rattle.sv_stream.proofs.Times.{event_behind}
+use Rattle.sv_stream.proofs.Times.{event_after}
 use Rattle.sv_stream.proofs.Standing.{IsBehind, IsPast, at_not_damaged, stands_less, stands_bad}
 use Rattle.sv_stream.proofs.Standing.{stands_value, stands_past, stands_piece}
 
@@ -109,7 +109,7 @@ pub list_next : (decoder view : Decoding) (packet : Packet) (used : ℕ) → vie
     (packets : List Packet) (end : End) → Reads input packets end
     → (event : TimedEvent) × IsNextOf given (timed packets) event × HasList event.event
 list_next decoder view packet used same begins has input given s packets end reads = (
-  event_behind view.time packet,
+  event_after view.time packet,
   stands_value view packet used begins input given
       (subst (λ (d : Decoding). StandsFor d input given) (sym same) s) packets end reads,
   has,

@@ -25,7 +25,7 @@ use Rattle.sv_stream.proofs.Searching.{searched_none, synced-body}
 use Rattle.sv_stream.proofs.Passing.{passes-more, passes-piece, passes-front, synced-piece}
 use Rattle.sv_stream.proofs.Telling.{IsLess, value_next, less_next, bad_next, not_damaged}
 use Rattle.sv_packet.proofs.Shared.{time_of-push, timed-push}
-use Rattle.sv_stream.proofs.Times.{event_behind, timed-grown, timed-next}
+use Rattle.sv_stream.proofs.Times.{event_after, timed-grown, timed-next}
 use Rattle.sv_stream.proofs.Packets.{readable}
 
 -- ---- a piece comes
@@ -323,7 +323,7 @@ value_so_far :
     (stage : Stage) (decoder : Decoding) (input : List ℕ) (given : List TimedEvent)
     (packets : List Packet) (end : End) (packet : Packet) (used : ℕ)
     → Begins IsPacket decoder.held packet used → IsSoFar stage decoder input given →
-    Reads input packets end → IsNextOf given (timed packets) (event_behind decoder.time packet)
+    Reads input packets end → IsNextOf given (timed packets) (event_after decoder.time packet)
 value_so_far (Searching zeros) decoder input given packets end packet used b (s, w) reads =
     absurd (nothing_begins IsPacket packet_reason readable decoder.held packet used w.empty b)
 value_so_far Zeros decoder input given packets end packet used b (s, w) reads =
@@ -339,7 +339,7 @@ value_so_far Body decoder input given packets end packet used b r reads =
     let more = timed-next passed packet one.0 decoder.time left.3 in (
       more.0,
       ap timed whole ∙ more.1
-          ∙ ap (λ (x : List TimedEvent). x ++ event_behind decoder.time packet ∷ more.0)
+          ∙ ap (λ (x : List TimedEvent). x ++ event_after decoder.time packet ∷ more.0)
           (sym left.2),
     )
 
@@ -347,7 +347,7 @@ pub stands_value : (decoder : Decoding) (packet : Packet) (used : ℕ) →
     Begins IsPacket decoder.held packet used
     → (input : List ℕ) (given : List TimedEvent) → StandsFor decoder input given →
     (packets : List Packet) (end : End) → Reads input packets end →
-    IsNextOf given (timed packets) (event_behind decoder.time packet)
+    IsNextOf given (timed packets) (event_after decoder.time packet)
 stands_value decoder packet used b input given s packets end reads =
     value_so_far decoder.stage decoder input given packets end packet used b s.so_far reads
 
@@ -361,7 +361,7 @@ pub record IsPast (old new : Decoding) (packet : Packet) (used : ℕ) : Type 0 w
 past_so_far :
     (stage : Stage) (old new : Decoding) (input : List ℕ) (given : List TimedEvent)
     (packet : Packet) (used : ℕ) → IsPast old new packet used → IsSoFar stage old input given
-    → IsSoFar stage new input (given ++ event_behind old.time packet ∷ [])
+    → IsSoFar stage new input (given ++ event_after old.time packet ∷ [])
 past_so_far (Searching zeros) old new input given packet used p (s, w) =
     absurd (nothing_begins IsPacket packet_reason readable old.held packet used w.empty p.begins)
 past_so_far Zeros old new input given packet used p (s, w) =
@@ -388,7 +388,7 @@ past_so_far Body old new input given packet used p r =
           Passes IsPacket r.start r.body (r.packets ++ packet ∷ []) n (drop used old.held)) place
           passed);
       given_is =
-          ap (λ (x : List TimedEvent). x ++ event_behind old.time packet ∷ []) r.given_is
+          ap (λ (x : List TimedEvent). x ++ event_after old.time packet ∷ []) r.given_is
           ∙ sym (timed-push r.packets packet old.time r.clock);
       clock = omega (arith, p.time, r.clock, time_of-push r.packets packet);
     }
@@ -396,10 +396,10 @@ past_so_far Body old new input given packet used p r =
 pub stands_past : (old new : Decoding) (packet : Packet) (used : ℕ) → IsPast old new packet used →
     new.stage ≡ old.stage
     → (input : List ℕ) (given : List TimedEvent) → StandsFor old input given →
-    StandsFor new input (given ++ event_behind old.time packet ∷ [])
+    StandsFor new input (given ++ event_after old.time packet ∷ [])
 stands_past old new packet used p stage input given s = record {
   all = omega (arith, s.all, p.place, ap length p.held, length-drop used old.held, p.begins.within);
   so_far =
-      subst (λ (x : Stage). IsSoFar x new input (given ++ event_behind old.time packet ∷ []))
+      subst (λ (x : Stage). IsSoFar x new input (given ++ event_after old.time packet ∷ []))
       (sym stage) (past_so_far old.stage old new input given packet used p s.so_far);
 }

@@ -103,7 +103,7 @@ pub record IsDecoder (held : List ℕ) (stage : Stage) (ahead : Ahead) (place ti
   pub within : place + length held ≤ 2 ^ 33
   pub clock : 2 * time ≤ (2 ^ 32 - 1) * place
 
--- the events that were given behind a call of `next`
+-- the events that were given after a call of `next`
 abbrev pub given_after : List TimedEvent → Result (Option TimedEvent) StreamFault → List TimedEvent
 given_after given (Ok (Some event)) = given ++ event ∷ []
 given_after given (Ok None) = given
@@ -117,7 +117,7 @@ IsDamaged end = ⊥
 abbrev pub IsNextOf : List TimedEvent → List TimedEvent → TimedEvent → Type 0
 IsNextOf given events event = (more : List TimedEvent) × (events ≡ given ++ event ∷ more)
 
--- what `next` answers behind the events that were given, of an input with these events and this end
+-- what `next` answers after the events that were given, of an input with these events and this end
 abbrev pub IsNext : List TimedEvent → List TimedEvent → End →
     Result (Option TimedEvent) StreamFault → Type 0
 IsNext given events end (Ok (Some event)) = IsNextOf given events event

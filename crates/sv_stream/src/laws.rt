@@ -18,8 +18,8 @@ pub fn read_once()
         (packets ≡ others) × (end ≡ other) }
 {}
 
-/// The law of inputs that go on: more bytes add packets behind those that an input has, and change
-/// none of them. Behind damage they add nothing.
+/// The law of inputs that go on: more bytes add packets after those that an input has, and change
+/// none of them. After damage they add nothing.
 pub fn read_on()
     ensures packets { (input more : List ℕ) → (packets others : List Packet) → (end other : End) →
         Reads input packets end → Reads (input ++ more) others other →

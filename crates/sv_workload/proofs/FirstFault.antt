@@ -6,15 +6,15 @@ use Rattle.std.specs.Prelude.{option_map}
 use Rattle.std.specs.Option.{option_or}
 use Rattle.std.proofs.lemmas.List.{append-nil, length-append}
 use Rattle.sv_workload.specs.declared.fault.LineFault.{LineFault}
-use Rattle.sv_workload.specs.Grammar.{fault_at, first_fault_behind}
+use Rattle.sv_workload.specs.Grammar.{fault_at, first_fault_after}
 
 -- what stands after good lines and one more good line
 pub one_good : (before : List (List ℕ)) (line : List ℕ) (more : List (List ℕ))
     → fault_at before line ≡ None
-    → first_fault_behind before (line ∷ more) ≡ first_fault_behind (before ++ line ∷ []) more
+    → first_fault_after before (line ∷ more) ≡ first_fault_after (before ++ line ∷ []) more
 one_good before line more good =
     ap (λ (o : Option LineFault). option_or (option_map (λ fault. (length before + 1, fault)) o)
-    (first_fault_behind (before ++ line ∷ []) more)) good
+    (first_fault_after (before ++ line ∷ []) more)) good
 
 -- the lines before a place after one more line
 shifted : (before : List (List ℕ)) (line : List ℕ) (more : List (List ℕ)) (k : ℕ)
@@ -23,7 +23,7 @@ shifted before line more k = sym (append_assoc before (line ∷ []) (take k more
 
 pub all_good : (before left : List (List ℕ))
     → ((k : ℕ) → k < length left → fault_at (before ++ take k left) (get_or left k []) ≡ None)
-    → first_fault_behind before left ≡ None
+    → first_fault_after before left ≡ None
 all_good before [] good = refl
 all_good before (line ∷ more) good =
     let first : fault_at before line ≡ None = subst (λ (b : List (List ℕ)). fault_at b line ≡ None)
@@ -36,14 +36,14 @@ all_good before (line ∷ more) good =
 pub first_at : (before left : List (List ℕ)) (place : ℕ) (fault : LineFault) → place < length left
     → fault_at (before ++ take place left) (get_or left place []) ≡ Some fault
     → ((k : ℕ) → k < place → fault_at (before ++ take k left) (get_or left k []) ≡ None) →
-    first_fault_behind before left ≡ Some (length before + place + 1, fault)
+    first_fault_after before left ≡ Some (length before + place + 1, fault)
 first_at before [] place fault within here earlier = absurd (omega arith)
 first_at before (line ∷ more) zero fault within here earlier =
     let now : fault_at before line ≡ Some fault = subst
     (λ (b : List (List ℕ)). fault_at b line ≡ Some fault) (append-nil before) here in
     let n : length before + 1 ≡ length before + 0 + 1 = omega arith in
     ap (λ (o : Option LineFault). option_or (option_map (λ f. (length before + 1, f)) o)
-    (first_fault_behind (before ++ line ∷ []) more)) now ∙ ap (λ (m : ℕ). Some (m, fault)) n
+    (first_fault_after (before ++ line ∷ []) more)) now ∙ ap (λ (m : ℕ). Some (m, fault)) n
 first_at before (line ∷ more) (suc place) fault within here earlier =
     let first : fault_at before line ≡ None = subst (λ (b : List (List ℕ)). fault_at b line ≡ None)
     (append-nil before) (earlier 0 (omega arith)) in

@@ -23,7 +23,7 @@ use Rattle.sv_workload.specs.Settings.{shift_told}
 use Rattle.sv_workload.specs.Meaning.{says, those, is_there, load_of}
 use Rattle.sv_workload.specs.Checks.{fault_of}
 use Rattle.sv_workload.specs.Draft.{Draft, Stands, is_later, load_by}
-use Rattle.sv_workload.specs.Grammar.{said, fault_at, first_fault, first_fault_behind}
+use Rattle.sv_workload.specs.Grammar.{said, fault_at, first_fault, first_fault_after}
 use Rattle.sv_workload.proofs.Keywords.{none_later}
 use Rattle.sv_workload.proofs.FirstFault.{one_good}
 
@@ -84,7 +84,7 @@ fault_said before line e = rw e refl
 pub record Walk (text rest : List ℕ) (draft : Draft) (number : ℕ) : Type 0 where
   pub before : List (List ℕ)
   pub lines : lines_of text ≡ before ++ lines_of rest
-  pub first : first_fault text ≡ first_fault_behind before (lines_of rest)
+  pub first : first_fault text ≡ first_fault_after before (lines_of rest)
   pub counted : number ≡ length before
   pub within : number + length rest ≤ length text
   pub stands : Stands draft (said before)
@@ -124,7 +124,7 @@ module _ (text old line rest : List ℕ) (draft : Draft) (number : ℕ)
     before = walk.before ++ line ∷ [];
     lines = walk.lines ∙ ap (λ (l : List (List ℕ)). walk.before ++ l) next.lines ∙ sym
         (append_assoc walk.before (line ∷ []) (lines_of rest));
-    first = walk.first ∙ ap (first_fault_behind walk.before) next.lines ∙ one_good walk.before line
+    first = walk.first ∙ ap (first_fault_after walk.before) next.lines ∙ one_good walk.before line
         (lines_of rest) good;
     counted = omega (arith, walk.counted, length-append walk.before (line ∷ []));
     within = omega (arith, walk.within, next.left);
@@ -134,10 +134,10 @@ module _ (text old line rest : List ℕ) (draft : Draft) (number : ℕ)
   pub walk_stops : (fault : LineFault) → fault_at walk.before line ≡ Some fault → first_fault text ≡
       Some (number + 1, fault)
   walk_stops fault e =
-      walk.first ∙ ap (first_fault_behind walk.before) next.lines
+      walk.first ∙ ap (first_fault_after walk.before) next.lines
       ∙ ap (λ (o : Option LineFault). option_or
       (option_map (λ fault. (length walk.before + 1, fault)) o)
-      (first_fault_behind (walk.before ++ line ∷ []) (lines_of rest))) e
+      (first_fault_after (walk.before ++ line ∷ []) (lines_of rest))) e
       ∙ ap (λ (n : ℕ). Some (n + 1, fault)) (sym walk.counted)
 
 -- lines of later say nothing yet
@@ -170,7 +170,7 @@ pub walk_ends : (text rest : List ℕ) (draft : Draft) (number : ℕ) → Walk t
 walk_ends text rest draft number walk none =
     let lines : lines_of text ≡ walk.before = walk.lines ∙ ap
     (λ (r : List ℕ). walk.before ++ lines_of r) none ∙ append-nil walk.before in (
-      walk.first ∙ ap (λ (r : List ℕ). first_fault_behind walk.before (lines_of r)) none,
+      walk.first ∙ ap (λ (r : List ℕ). first_fault_after walk.before (lines_of r)) none,
       load_is draft (said walk.before) walk.stands ∙ ap (λ (l : List (List ℕ)). load_of (said l))
           (sym lines),
     )

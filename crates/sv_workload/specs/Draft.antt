@@ -75,8 +75,8 @@ pub record Stands (draft : Draft) (lines : List Line) : Type 0 where
   pub later : list_all (λ line. not (is_later line.keyword)) lines ≡ true
 
 -- the line has no fault after the lines that the draft stands for
-abbrev pub IsGoodBehind : Draft → Line → Type 0
-IsGoodBehind draft line = (lines : List Line) × Stands draft lines × (fault_of lines line ≡ None)
+abbrev pub IsGoodAfter : Draft → Line → Type 0
+IsGoodAfter draft line = (lines : List Line) × Stands draft lines × (fault_of lines line ≡ None)
 
 -- the draft holds what one more line says
 abbrev pub HasTaken : Draft → Draft → Line → Type 0

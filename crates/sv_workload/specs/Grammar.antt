@@ -21,15 +21,15 @@ fault_at before line = if is_remark line then None else fault_of (said before) (
 
 -- the first line with a fault among those that follow the lines before, by its number among all of
 -- them
-abbrev pub first_fault_behind : List (List ℕ) → List (List ℕ) → Option (ℕ × LineFault)
-first_fault_behind before [] = None
-first_fault_behind before (line ∷ lines) = option_or
+abbrev pub first_fault_after : List (List ℕ) → List (List ℕ) → Option (ℕ × LineFault)
+first_fault_after before [] = None
+first_fault_after before (line ∷ lines) = option_or
     (option_map (λ fault. (length before + 1, fault)) (fault_at before line))
-    (first_fault_behind (before ++ line ∷ []) lines)
+    (first_fault_after (before ++ line ∷ []) lines)
 
 -- the first line with a fault, counted from 1, and the fault
 abbrev pub first_fault : List ℕ → Option (ℕ × LineFault)
-first_fault text = first_fault_behind [] (lines_of text)
+first_fault text = first_fault_after [] (lines_of text)
 
 -- the same, with the fault as its number
 abbrev pub first_reason : List ℕ → Option (ℕ × ℕ)

@@ -7,7 +7,7 @@ ghost use Rattle.sv_workload.specs.Forms.{is_in, form_of};
 ghost use Rattle.sv_workload.specs.Need.{one_if, is_start_act, IsStepAct, IsTask, HasWords, IsTurn};
 ghost use Rattle.sv_workload.specs.Settings.{tell};
 ghost use Rattle.sv_workload.specs.Scripts.{onto_last, over_scripts};
-ghost use Rattle.sv_workload.specs.Draft.{IsGoodBehind, HasTaken, is_later};
+ghost use Rattle.sv_workload.specs.Draft.{IsGoodAfter, HasTaken, is_later};
 ghost use Rattle.sv_workload.specs.Limits.{most_steps, most_starts, most_ticks};
 
 use crate::draft::Draft;
@@ -93,7 +93,7 @@ impl Draft {
     ) -> Result<(), NoMemory>
         requires keyword { line.now.keyword ≡ Setup word }
         requires known { is_later line.now.keyword ≡ false }
-        requires good { IsGoodBehind self.old line.now }
+        requires good { IsGoodAfter self.old line.now }
         ensures { OnOk result (HasTaken self.old self.new line.now) }
     {
         match word {
@@ -112,7 +112,7 @@ impl Draft {
     #[inline(always)]
     fn add_act(&mut self, alloc: Global, line: &ReadLine<'_>, word: ActWord) -> Result<(), NoMemory>
         requires keyword { line.now.keyword ≡ Act word }
-        requires good { IsGoodBehind self.old line.now }
+        requires good { IsGoodAfter self.old line.now }
         ensures { OnOk result (HasTaken self.old self.new line.now) }
     {
         let base = self.settings.base();
@@ -125,7 +125,7 @@ impl Draft {
     #[inline(always)]
     pub fn add(&mut self, alloc: Global, line: &ReadLine<'_>) -> Result<(), NoMemory>
         requires known { is_later line.now.keyword ≡ false }
-        requires good { IsGoodBehind self.old line.now }
+        requires good { IsGoodAfter self.old line.now }
         ensures { OnOk result (HasTaken self.old self.new line.now) }
     {
         match line.keyword() {

@@ -1,8 +1,8 @@
-/* The commands `events F` and `check F` in plain C, with the same text and the same exit codes:
- * what they are measured against. It is written for speed: it reads through one buffer by read(2),
+/* The commands `events F` and `check F` in plain C, with the same text and the same exit codes, as
+ * fast as it gets without threads or vector instructions. It reads through one buffer by read(2),
  * writes through another by write(2), and a packet is decoded without a look at the end of what is
  * held, behind which zeros stand, so that what reads past it stops there.
- * Usage: baseline events F | check F */
+ * Usage: baseline events F | baseline check F */
 #define _POSIX_C_SOURCE 200809L
 #include <fcntl.h>
 #include <stdbool.h>
@@ -10,41 +10,15 @@
 #include <stdlib.h>
 #include <string.h>
 #include <unistd.h>
-
-typedef unsigned char byte;
+#include "out.h"
+#include "packet.h"
 
 /* HELD is more than the longest packet, 65554 bytes. PAST is more than a packet without its text or
- * payload. ROOM is more than a line without its text, payload and arguments. */
-enum { HELD = 131072, PAST = 64, OUT = 131072, ROOM = 256 };
+ * payload. */
+enum { HELD = 131072, PAST = 64 };
 
 static byte held[HELD + PAST];
 static const byte *end = held;
-static char out[OUT];
-
-/* Where each byte of the output goes is passed along, so that it stays in a register. */
-
-static char *flush(char *at) {
-    for (const char *from = out; from < at;) {
-        ssize_t wrote = write(1, from, (size_t)(at - from));
-        if (wrote < 0) exit(4);
-        from += wrote;
-    }
-    return out;
-}
-
-/* Makes room for ROOM bytes. */
-static inline char *reserve(char *at) { return out + OUT - at < ROOM ? flush(at) : at; }
-
-static char *put_text(char *at, const char *text) {
-    size_t length = strlen(text);
-    memcpy(at, text, length);
-    return at + length;
-}
-
-static const char pairs[] =
-    "00010203040506070809101112131415161718192021222324252627282930313233343536373839"
-    "40414243444546474849505152535455565758596061626364656667686970717273747576777879"
-    "8081828384858687888990919293949596979899";
 
 /* The digits are made from the last to the first; then 20 bytes go out, whatever is behind. */
 static char *put_long(char *at, uint64_t n) {
@@ -82,29 +56,6 @@ static inline char *put_spaced(char *at, uint32_t n) {
     return put_number(at + 1, n);
 }
 
-static inline char *put_hex(char *at, byte b) {
-    static const char digits[] = "0123456789ABCDEF";
-    at[0] = digits[b >> 4];
-    at[1] = digits[b & 15];
-    return at + 2;
-}
-
-static char *put_quoted(char *at, const byte *t, size_t length) {
-    *at++ = '"';
-    for (const byte *stop = t + length; t < stop; t++) {
-        at = reserve(at);
-        if (*t < 0x20 || *t > 0x7e) {
-            *at++ = '\\', *at++ = 'x';
-            at = put_hex(at, *t);
-        } else {
-            if (*t == '"' || *t == '\\') *at++ = '\\';
-            *at++ = (char)*t;
-        }
-    }
-    *at++ = '"';
-    return at;
-}
-
 /* Why a packet does not go on, and with which byte; where that is past the end, it is only cut. */
 static const byte *stopped;
 static int reason;
@@ -119,7 +70,7 @@ static const byte *long_number(const byte *at, uint32_t *n) {
     uint32_t value = *at & 0x7f;
     for (int place = 1;; place++) {
         uint32_t b = at[place];
-        if (b == 0 || (place == 4 && b >= 16)) return stop(at + place, 1);
+        if (b == 0 || (place == 4 && b >= 16)) return stop(at + place, BAD_NUMBER);
         value |= (b & 0x7f) << (7 * place);
         if (b < 0x80) {
             *n = value;
@@ -156,45 +107,18 @@ static inline const byte *two(const byte *at, int why, uint32_t *n) {
 }
 
 static const byte *text(const byte *at, const byte *limit, const byte **t, size_t *length) {
-    if (at >= limit) return stop(limit, 0);
+    if (at >= limit) return stop(limit, CUT);
     size_t n = *at++;
     if (n == 255) {
         n = at[0] | (size_t)at[1] << 8;
-        if (n < 255) return stop(at + 1, 4);
+        if (n < 255) return stop(at + 1, BAD_TEXT);
         at += 2;
     }
-    if (at > limit || (size_t)(limit - at) < n) return stop(limit, 0);
+    if (at > limit || (size_t)(limit - at) < n) return stop(limit, CUT);
     *t = at;
     *length = n;
     return at + n;
 }
-
-enum { DATA_SAMPLE = 23, INIT, NAME_RESOURCE, PRINT_FORMATTED, KINDS = 30 };
-
-/* By identifier: the name, how many numbers are wanted at least and at most, and whether a text. */
-static const struct kind {
-    char name[16];
-    byte length, least, most, text;
-} kinds[KINDS] = {
-#define KIND(name, ...) {name, sizeof name - 1, __VA_ARGS__}
-    KIND("NOP", 0, 0, 0), KIND("OVERFLOW", 1, 1, 0), KIND("ISR_ENTER", 1, 1, 0),
-    KIND("ISR_EXIT", 0, 0, 0), KIND("TASK_START_EXEC", 1, 1, 0), KIND("TASK_STOP_EXEC", 0, 0, 0),
-    KIND("TASK_START_READY", 1, 1, 0), KIND("TASK_STOP_READY", 2, 2, 0),
-    KIND("TASK_CREATE", 1, 1, 0), KIND("TASK_INFO", 2, 2, 1), KIND("TRACE_START", 0, 0, 0),
-    KIND("TRACE_STOP", 0, 0, 0), KIND("SYSTIME_CYCLES", 1, 1, 0), KIND("SYSTIME_US", 2, 2, 0),
-    KIND("SYSDESC", 0, 0, 1), KIND("MARK_START", 1, 1, 0), KIND("MARK_STOP", 1, 1, 0),
-    KIND("IDLE", 0, 0, 0), KIND("ISR_TO_SCHEDULER", 0, 0, 0), KIND("TIMER_ENTER", 1, 1, 0),
-    KIND("TIMER_EXIT", 0, 0, 0), KIND("STACK_INFO", 4, 4, 0), KIND("MODULEDESC", 2, 2, 1),
-    KIND("", 0, 0, 0), KIND("INIT", 4, 4, 0), KIND("NAME_RESOURCE", 1, 1, 1),
-    KIND("PRINT_FORMATTED", 0, 0, 0), KIND("NUMMODULES", 1, 1, 0), KIND("END_CALL", 1, 2, 0),
-    KIND("TASK_TERMINATE", 1, 1, 0)};
-
-struct packet {
-    uint32_t id, count, numbers[4], delta, arg_count;
-    bool opaque;
-    const byte *text, *payload, *args;
-    size_t text_length, payload_length;
-};
 
 /* Whether the payload is exactly a known form of its identifier. */
 static bool form(struct packet *p, const byte *at, const byte *limit) {
@@ -219,7 +143,7 @@ static inline const byte *packet(const byte *at, struct packet *p) {
     p->id = *at;
     p->opaque = false;
     if (p->id < INIT) {
-        if (p->id == DATA_SAMPLE) return stop(at, 2);
+        if (p->id == DATA_SAMPLE) return stop(at, BAD_IDENTIFIER);
         const struct kind *kind = &kinds[p->id];
         p->count = kind->most;
         at++;
@@ -228,8 +152,9 @@ static inline const byte *packet(const byte *at, struct packet *p) {
         if (kind->text && !(at = text(at, end, &p->text, &p->text_length))) return NULL;
     } else {
         uint32_t length;
-        if (!(at = two(at, 2, &p->id)) || !(at = two(at, 3, &length))) return NULL;
-        if (at > end || (size_t)(end - at) < length) return stop(end, 0);
+        if (!(at = two(at, BAD_IDENTIFIER, &p->id))) return NULL;
+        if (!(at = two(at, BAD_LENGTH, &length))) return NULL;
+        if (at > end || (size_t)(end - at) < length) return stop(end, CUT);
         p->payload = at;
         p->payload_length = length;
         p->opaque = p->id >= KINDS || !form(p, at, at + length);

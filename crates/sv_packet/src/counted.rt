@@ -10,7 +10,7 @@ use crate::building::regular_event;
 use crate::event_ref::EventRef;
 use crate::numbers_ref::NumbersRef;
 use crate::reader::{Four, Reader};
-use crate::shape::{has_text, numbers_before};
+use crate::shape::shape_of;
 
 /// A payload that is a form of its identifier, as it stands in the slice.
 #[derive(Clone, Copy)]
@@ -56,10 +56,11 @@ fn regular(id: u16, payload: &[u8]) -> Option<Form<'_>>
         bytes: payload,
         at: 0,
     };
-    let Ok(four) = reader.numbers(numbers_before(id)) else {
+    let (count, ends) = shape_of(id);
+    let Ok(four) = reader.numbers(count) else {
         return None;
     };
-    let Ok(text) = reader.text_if(has_text(id)) else {
+    let Ok(text) = reader.text_if(ends) else {
         return None;
     };
     if payload.len() > reader.at {

@@ -13,7 +13,7 @@ use crate::counted::counted_event;
 use crate::event::Packet;
 use crate::event_ref::{EventRef, PacketRef};
 use crate::reader::{Four, Reader, Stop};
-use crate::shape::{has_text, numbers_before};
+use crate::shape::shape_of;
 use std::alloc::Global;
 use sv_prim::{Got, NoMemory};
 
@@ -51,8 +51,9 @@ fn read_parts<'a>(reader: &mut Reader<'a>) -> Result<Parts<'a>, Stop>
             delta,
         });
     }
-    let four = reader.numbers(numbers_before(id))?;
-    let bytes = reader.text_if(has_text(id))?;
+    let (count, ends) = shape_of(id);
+    let four = reader.numbers(count)?;
+    let bytes = reader.text_if(ends)?;
     let delta = reader.number()?;
     Ok(Parts {
         id,

@@ -2,24 +2,20 @@
 ghost use Rattle.std.specs.Prelude.{◌≡◌, ◌≤◌};
 ghost use Rattle.sv_packet.specs.Shape.{number_count, ends_in_text};
 
-/// How many numbers the payload begins with.
+/// How many numbers the payload begins with, and whether a text ends it.
 #[inline(always)]
-pub fn numbers_before(id: u16) -> u8
-    ensures told { result ≡ number_count id }
-    ensures few { result ≤ 4 }
+pub fn shape_of(id: u16) -> (u8, bool)
+    ensures numbers { result.0 ≡ number_count id }
+    ensures few { result.0 ≤ 4 }
+    ensures text { result.1 ≡ ends_in_text id }
 {
     match id {
-        1 | 2 | 4 | 6 | 8 | 12 | 15 | 16 | 19 | 25 | 27 | 29 => 1,
-        7 | 9 | 13 | 22 => 2,
-        21 | 24 => 4,
-        _ => 0,
+        1 | 2 | 4 | 6 | 8 | 12 | 15 | 16 | 19 | 27 | 29 => (1, false),
+        25 => (1, true),
+        7 | 13 => (2, false),
+        9 | 22 => (2, true),
+        14 => (0, true),
+        21 | 24 => (4, false),
+        _ => (0, false),
     }
-}
-
-/// Whether a text ends the payload.
-#[inline(always)]
-pub fn has_text(id: u16) -> bool
-    ensures { result ≡ ends_in_text id }
-{
-    matches!(id, 9 | 14 | 22 | 25)
 }

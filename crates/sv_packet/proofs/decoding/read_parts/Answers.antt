@@ -58,7 +58,7 @@ returns-in_err-four c =
     c.from_residual-in_err-four.ensures.1 in
     rw (p.1, p.2)
     (stops_at_numbers c.args.reader.now c.identifier.new.self c.in_ok-id.id c.in_ok-id.ensures
-    (omega (arith, c.if-id-ge24.false)) c.numbers_before.result c.numbers_before.ensures.told
+    (omega (arith, c.if-id-ge24.false)) c.shape_of-count.result.0 c.shape_of-count.ensures.numbers
     c.in_err-four.field-0.0 c.in_err-four.ensures)
 
 pub returns-in_err-bytes-2 : goal.returns-in_err-bytes-2
@@ -68,9 +68,9 @@ returns-in_err-bytes-2 c =
     c.from_residual-in_err-bytes-2.ensures.1 in
     rw (p.1, p.2)
     (stops_at_text c.args.reader.now c.identifier.new.self c.in_ok-id.id c.in_ok-id.ensures
-    (omega (arith, c.if-id-ge24.false)) c.numbers_before.result c.numbers_before.ensures.told
-    c.numbers.new.self (numbers_in c.numbers_before.result c.in_ok-four.four)
-    c.in_ok-four.ensures c.has_text.result c.has_text.ensures c.in_err-bytes-2.field-0.0
+    (omega (arith, c.if-id-ge24.false)) c.shape_of-count.result.0 c.shape_of-count.ensures.numbers
+    c.numbers.new.self (numbers_in c.shape_of-count.result.0 c.in_ok-four.four)
+    c.in_ok-four.ensures c.shape_of-count.result.1 c.shape_of-count.ensures.text c.in_err-bytes-2.field-0.0
     c.in_err-bytes-2.ensures)
 
 pub returns-in_err-delta-2 : goal.returns-in_err-delta-2
@@ -80,9 +80,9 @@ returns-in_err-delta-2 c =
     c.from_residual-in_err-delta-2.ensures.1 in
     rw (p.1, p.2)
     (stops_at_delta c.args.reader.now c.identifier.new.self c.in_ok-id.id c.in_ok-id.ensures
-    (omega (arith, c.if-id-ge24.false)) c.numbers_before.result c.numbers_before.ensures.told
-    c.numbers.new.self (numbers_in c.numbers_before.result c.in_ok-four.four)
-    c.in_ok-four.ensures c.has_text.result c.has_text.ensures c.text_if.new.self
+    (omega (arith, c.if-id-ge24.false)) c.shape_of-count.result.0 c.shape_of-count.ensures.numbers
+    c.numbers.new.self (numbers_in c.shape_of-count.result.0 c.in_ok-four.four)
+    c.in_ok-four.ensures c.shape_of-count.result.1 c.shape_of-count.ensures.text c.text_if.new.self
     c.in_ok-bytes-2.bytes.now c.in_ok-bytes-2.ensures c.in_err-delta-2.field-0.0
     c.in_err-delta-2.ensures)
 
@@ -115,15 +115,15 @@ returns c = record {
     | inr counted ↦ absurd (omega (arith, counted.0, c.if-id-ge24.false))
     | inl bare ↦
         takes_bare c.args.reader.now c.identifier.new.self c.in_ok-id.id c.in_ok-id.ensures
-        (omega (arith, c.if-id-ge24.false)) c.numbers_before.result
-        c.numbers_before.ensures.told c.numbers.new.self
-        (numbers_in c.numbers_before.result c.in_ok-four.four) c.in_ok-four.ensures
-        c.has_text.result c.has_text.ensures c.text_if.new.self
+        (omega (arith, c.if-id-ge24.false)) c.shape_of-count.result.0
+        c.shape_of-count.ensures.numbers c.numbers.new.self
+        (numbers_in c.shape_of-count.result.0 c.in_ok-four.four) c.in_ok-four.ensures
+        c.shape_of-count.result.1 c.shape_of-count.ensures.text c.text_if.new.self
         c.in_ok-bytes-2.bytes.now c.in_ok-bytes-2.ensures c.number-2.new.self
         c.in_ok-delta-2.delta c.in_ok-delta-2.ensures event
         (subst
         (λ (k : ℕ).
         IsMade c.in_ok-id.id (numbers_in k c.in_ok-four.four) c.in_ok-bytes-2.bytes.now event)
-        (sym c.numbers_before.ensures.told) bare.1)
+        (sym c.shape_of-count.ensures.numbers) bare.1)
   ];
 }

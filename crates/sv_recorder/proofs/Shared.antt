@@ -4,3 +4,4 @@ pub use Rattle.sv_recorder.proofs.Freed.{still-freed}
 pub use Rattle.sv_recorder.proofs.Scripts.{calls_within, one_script}
 pub use Rattle.sv_recorder.proofs.Steps.{latest_first-push, each-push, IsLegal-open, IsOpen-legal}
 pub use Rattle.sv_recorder.proofs.Steps.{outcome_at-control}
+pub use Rattle.sv_recorder.proofs.examples.Words.{whole_of}

@@ -1,14 +1,12 @@
 -- A simulated journal worked out by hand, and its turns.
-use Rattle.std.proofs.Common.{◌≡◌, ℕ, ◌<◌, zero, suc, false, List, [], ◌∷◌, refl, arith, rules}
-use Rattle.std.proofs.Common.{length}
-use Rattle.std.specs.Prelude.{count_by}
-use Rattle.sv_workload.specs.Load.{Load, script_of}
+use Rattle.std.proofs.Common.{◌≡◌, false, List, [], ◌∷◌, refl, rules}
+use Rattle.sv_workload.specs.Load.{Load}
 use Rattle.sv_recorder.specs.declared.journal.Kind.TheVariants as kinds
 use Rattle.sv_recorder.specs.declared.journal.Origin.TheVariants.{Call, Sync, Reply}
 use Rattle.sv_recorder.specs.declared.journal.Outcome.TheVariants.{Stored, Handled}
 use Rattle.sv_recorder.specs.declared.journal.Item.{Item}
-use Rattle.sv_recorder.specs.Items.{is_call_of}
 use Rattle.sv_recorder.specs.Legal.{IsWhole}
+use Rattle.sv_recorder.proofs.Shared.{whole_of}
 use Rattle.sv_core.specs.Turns.{Turns}
 use Rattle.sv_core.specs.Turns.{turns_of}
 use Rattle.sv_core.specs.Simulated.{IsSimulated}
@@ -48,13 +46,8 @@ turns = record { steps = turn 0 false ∷ []; frees = 0 ∷ 0 ∷ 0 ∷ 0 ∷ 0 
 turned : turns_of items ≡ turns
 turned = refl
 
-scripts : (writer : ℕ) → writer < length load.scripts
-    → count_by (λ i. is_call_of writer i.origin) items ≡ length (script_of load writer)
-scripts zero h = refl
-scripts (suc writer) h = absurd (omega (arith, h))
-
 whole : IsWhole load items
-whole = record { scripts = scripts; commands = refl }
+whole = whole_of load items refl refl refl
 
 pub simulated : IsSimulated load items
 simulated =

@@ -1,12 +1,10 @@
 -- A start alone, its stream, and that it is legal and whole.
-use Rattle.std.proofs.Common.{◌≡◌, ℕ, ◌<◌, zero, suc, List, [], ◌∷◌, length, refl, arith, rules}
-use Rattle.std.specs.Prelude.{count_by}
-use Rattle.sv_workload.specs.Load.{Load, script_of}
+use Rattle.std.proofs.Common.{◌≡◌, ℕ, List, [], ◌∷◌, length, refl, rules}
+use Rattle.sv_workload.specs.Load.{Load}
 use Rattle.sv_recorder.specs.declared.journal.Item.{Item}
-use Rattle.sv_recorder.specs.Items.{is_call_of}
 use Rattle.sv_recorder.specs.Legal.{IsLegal, IsWhole}
 use Rattle.sv_recorder.specs.Stream.{stream_of, IsCalm}
-use Rattle.sv_recorder.proofs.examples.Words.{load_of, start, started}
+use Rattle.sv_recorder.proofs.examples.Words.{load_of, start, started, whole_of}
 
 abbrev pub load : Load
 load = load_of 1024 (start 0 ∷ [])
@@ -28,13 +26,8 @@ stream = refl
 pub legal : IsLegal load items
 legal = search rules
 
-scripts : (writer : ℕ) → writer < length load.scripts
-    → count_by (λ i. is_call_of writer i.origin) items ≡ length (script_of load writer)
-scripts zero h = refl
-scripts (suc writer) h = absurd (omega (arith, h))
-
 pub whole : IsWhole load items
-whole = record { scripts = scripts; commands = refl }
+whole = whole_of load items refl refl refl
 
 calm : IsCalm load items
 calm = search rules

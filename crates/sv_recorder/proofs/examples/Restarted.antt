@@ -1,18 +1,16 @@
 -- A recorder that is stopped and started again, its stream, and that its journal is legal and
 -- whole.
-use Rattle.std.proofs.Common.{◌≡◌, ℕ, ◌<◌, zero, suc, List, [], ◌∷◌, ◌++◌, length, refl, arith}
-use Rattle.std.proofs.Common.{rules}
-use Rattle.std.specs.Prelude.{count_by}
-use Rattle.sv_workload.specs.Load.{Load, script_of}
+use Rattle.std.proofs.Common.{◌≡◌, ℕ, List, [], ◌∷◌, ◌++◌, length, refl, rules}
+use Rattle.sv_workload.specs.Load.{Load}
 use Rattle.sv_recorder.specs.declared.journal.Kind.TheVariants as kinds
 use Rattle.sv_recorder.specs.declared.journal.Origin.TheVariants.{Call, Sync, Reply, Overflow}
 use Rattle.sv_recorder.specs.declared.journal.Outcome.TheVariants.{Stored, Refused, Ignored}
 use Rattle.sv_recorder.specs.declared.journal.Outcome.TheVariants.{Handled}
 use Rattle.sv_recorder.specs.declared.journal.Item.{Item}
-use Rattle.sv_recorder.specs.Items.{is_call_of}
 use Rattle.sv_recorder.specs.Legal.{IsLegal, IsWhole}
 use Rattle.sv_recorder.specs.Stream.{stream_of, IsCalm}
 use Rattle.sv_recorder.proofs.examples.Words.{at, load_of, mark, marks, start, started, stop}
+use Rattle.sv_recorder.proofs.examples.Words.{whole_of}
 
 abbrev pub load : Load
 load = load_of 64 (start 0 ∷ marks 7 300 ++ (stop 1 ∷ mark 1 300 ∷ start 1 ∷ []))
@@ -45,13 +43,8 @@ stream = refl
 pub legal : IsLegal load items
 legal = search rules
 
-scripts : (writer : ℕ) → writer < length load.scripts
-    → count_by (λ i. is_call_of writer i.origin) items ≡ length (script_of load writer)
-scripts zero h = refl
-scripts (suc writer) h = absurd (omega (arith, h))
-
 pub whole : IsWhole load items
-whole = record { scripts = scripts; commands = refl }
+whole = whole_of load items refl refl refl
 
 calm : IsCalm load items
 calm = search rules

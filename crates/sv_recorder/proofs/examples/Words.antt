@@ -1,15 +1,19 @@
--- Short words for journals worked out by hand.
-use Rattle.std.proofs.Common.{◌≡◌, ℕ, false, List, [], ◌∷◌, replicate}
+-- Short words for journals worked out by hand, and when they are whole.
+use Rattle.std.proofs.Common.{◌≡◌, ℕ, ◌<◌, zero, suc, false, List, [], ◌∷◌, length, replicate}
+use Rattle.std.proofs.Common.{arith}
+use Rattle.std.specs.Prelude.{count_by}
 use Rattle.sv_packet.specs.declared.event.Event.TheVariants.{MarkStart}
 use Rattle.sv_workload.specs.declared.load.Act.TheVariants as acts
 use Rattle.sv_workload.specs.declared.load.Step.{Step}
-use Rattle.sv_workload.specs.Load.{Load}
+use Rattle.sv_workload.specs.Load.{Load, script_of}
 use Rattle.sv_recorder.specs.declared.journal.Kind.TheVariants as kinds
 use Rattle.sv_recorder.specs.declared.journal.Origin.{Origin}
 use Rattle.sv_recorder.specs.declared.journal.Origin.TheVariants.{Call, Sync, Reply}
 use Rattle.sv_recorder.specs.declared.journal.Outcome.{Outcome}
 use Rattle.sv_recorder.specs.declared.journal.Outcome.TheVariants.{Stored, Handled}
 use Rattle.sv_recorder.specs.declared.journal.Item.{Item}
+use Rattle.sv_recorder.specs.Items.{is_call_of}
+use Rattle.sv_recorder.specs.Legal.{IsWhole, AreFirstCommands}
 
 -- a workload of one script that describes nothing
 abbrev pub load_of : ℕ → List Step → Load
@@ -63,3 +67,14 @@ started moment freed step =
 -- two equal numbers
 abbrev pub Same : ℕ → ℕ → Type 0
 Same m n = m ≡ n
+
+-- of one script, a journal is whole with each of its calls and the first of the commands
+pub whole_of : (load : Load) (items : List Item) → length load.scripts ≡ 1
+    → count_by (λ i. is_call_of 0 i.origin) items ≡ length (script_of load 0)
+    → AreFirstCommands load items → IsWhole load items
+whole_of load items one calls commands = record { scripts = scripts; commands = commands }
+  where
+    scripts : (writer : ℕ) → writer < length load.scripts
+        → count_by (λ i. is_call_of writer i.origin) items ≡ length (script_of load writer)
+    scripts zero h = calls
+    scripts (suc writer) h = absurd (omega (arith, h, one))

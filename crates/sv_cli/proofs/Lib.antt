@@ -1,6 +1,9 @@
 pub mod Parts
 pub mod Lines
 pub mod Drained
+pub mod Outcomes
+pub mod Begun
 pub mod Pieces
+pub mod Ended
 pub mod Files
 pub mod SameWords

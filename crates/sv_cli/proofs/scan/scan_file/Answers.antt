@@ -1,5 +1,5 @@
 use Rattle.sv_cli.proofs.Files.{of_nothing, of_scan}
-use Rattle.sv_cli.proofs.Pieces.{nothing_answered}
+use Rattle.sv_cli.proofs.Begun.{nothing_answered}
 use Rattle.sv_cli.proofs.scan.scan_file.Goals as goal
 
 pub returns-in_default-clause-answered : goal.returns-in_default-clause-answered

@@ -1,7 +1,7 @@
 use Rattle.std.proofs.Common.{ℕ, List, subst}
 use Rattle.std.specs.Io.KnownBytes.{Appends}
 use Rattle.sv_base.specs.Streams.{AppendsPart}
-use Rattle.sv_cli.proofs.Pieces.{end_unmade, end_cut, end_written}
+use Rattle.sv_cli.proofs.Ended.{end_unmade, end_cut, end_written}
 use Rattle.sv_cli.proofs.scan.Scan.end.Goals as goal
 
 pub returns-in_default-clause-ended : goal.returns-in_default-clause-ended

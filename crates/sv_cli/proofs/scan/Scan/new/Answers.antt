@@ -1,5 +1,5 @@
 use Rattle.std.proofs.Common.{refl}
-use Rattle.sv_cli.proofs.Pieces.{between-none}
+use Rattle.sv_cli.proofs.Begun.{between-none}
 use Rattle.sv_cli.proofs.scan.Scan.new.Goals as goal
 
 pub returns : goal.returns

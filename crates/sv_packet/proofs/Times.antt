@@ -19,7 +19,7 @@ with_before_from-append before (x ∷ xs) ys =
 abbrev pub event_at : List Packet × Packet → TimedEvent
 event_at at = record { time = time_of (at.0 ++ at.1 ∷ []); event = at.1.event }
 
--- the events of packets that come behind others
+-- the events of packets that come after others
 abbrev pub timed_after : List Packet → List Packet → List TimedEvent
 timed_after before packets = map event_at (with_before_from before packets)
 

@@ -125,7 +125,7 @@ fn three_marks_refused_and_counted(rt: HostRuntime) -> Result<(), Fail> {
         .as_slice()
     );
 
-    // The start and 329 marks take 1,021 of 1,023 bytes. Behind the read comes the count of those
+    // The start and 329 marks take 1,021 of 1,023 bytes. After the read comes the count of those
     // that are lost, 4 ticks after the last mark that was stored.
     let mut want = START.to_vec(alloc)?;
     for _ in 0..329 {

@@ -43,7 +43,7 @@ nothing_known Short held new_held place new_place packet used b known =
 nothing_known (Bad at reason) held new_held place new_place packet used b known =
     absurd (begins_not_breaks IsPacket readable.free held packet used known.0 b known.1)
 
--- bounds of a decoder behind a packet
+-- bounds of a decoder after a packet
 pub past_keeps :
     (old_held new_held : List ℕ) (stage : Stage) (ahead : Ahead) (place time used more : ℕ)
     (packet : Packet) → IsDecoder old_held stage ahead place time →

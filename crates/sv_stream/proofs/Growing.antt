@@ -39,7 +39,7 @@ module _ {V : Type 0} (S : V → List ℕ → Type 0) (Why : List ℕ → Reason
         (sym (take-append-le count rest piece (omega (arith, breaks.within)))) why,
   )
 
-  -- behind damage nothing comes
+  -- after damage nothing comes
   pub damage_stays : (input piece : List ℕ) (values : List V) (at : ℕ) (reason : Reason) →
       ReadsBy S Why input values (Damaged at reason) →
       ReadsBy S Why (input ++ piece) values (Damaged at reason)

@@ -30,7 +30,7 @@ use Rattle.sv_stream.proofs.Packets.{readable}
 
 -- ---- a piece comes
 
--- a decoder behind a piece: so many of its bytes stand before the first packet, and the others are
+-- a decoder after a piece: so many of its bytes stand before the first packet, and the others are
 -- held
 pub record IsBehind (old new : Decoding) (piece : List ℕ) (before : ℕ) : Type 0 where
   pub within : before ≤ length piece
@@ -351,7 +351,7 @@ pub stands_value : (decoder : Decoding) (packet : Packet) (used : ℕ) →
 stands_value decoder packet used b input given s packets end reads =
     value_so_far decoder.stage decoder input given packets end packet used b s.so_far reads
 
--- a decoder behind a packet
+-- a decoder after a packet
 pub record IsPast (old new : Decoding) (packet : Packet) (used : ℕ) : Type 0 where
   pub begins : Begins IsPacket old.held packet used
   pub held : new.held ≡ drop used old.held

@@ -59,7 +59,7 @@ module _ {V : Type 0} (S : V → List ℕ → Type 0) (Why : List ℕ → Reason
       (less_begins_none rest v (length first) less
       (spelled_begins S rest first others v spelled whole))
 
-  -- behind the damage comes nothing
+  -- after the damage comes nothing
   pub bad_next :
       (place : ℕ) (rest : List ℕ) (more : List V) (end : End) (at : ℕ) (reason : Reason)
       (count : ℕ) → BreaksAt S rest count → at ≡ place + count → Why (take count rest) reason →

@@ -1,16 +1,16 @@
--- Times, when more packets come behind others.
+-- Times, when more packets come after others.
 use Rattle.std.proofs.Common.{◌≡◌, ℕ, ◌+◌, List, [], ◌∷◌, ◌++◌, ap, ◌∙◌, arith}
 use Rattle.sv_packet.specs.declared.event.Packet.{Packet}
 use Rattle.sv_packet.specs.declared.event.TimedEvent.{TimedEvent}
 use Rattle.sv_packet.specs.Time.{time_of, timed}
 use Rattle.sv_packet.proofs.Shared.{time_of-push, timed-append, timed_after}
 
--- the events of more packets come behind those of the first
+-- the events of more packets come after those of the first
 pub timed-grown : (ps qs : List Packet) →
     (more : List TimedEvent) × (timed (ps ++ qs) ≡ timed ps ++ more)
 timed-grown ps qs = (timed_after ps qs, timed-append ps qs)
 
--- the event of a packet behind others
+-- the event of a packet after others
 abbrev pub event_after : ℕ → Packet → TimedEvent
 event_after time p = record { time = time + p.delta; event = p.event }
 

@@ -25,7 +25,7 @@ const ZEROS_IN_JUNK: [u8; 22] = [
     0, 0, 0, 0, 0, 0, 0, 0, 0, 1, 0, 0, 0, 0, 0, 0, 0, 0, 0, 0, 10, 7,
 ];
 
-/// MARK_START at 0, TASK_START_EXEC 32 ticks behind it.
+/// MARK_START at 0, TASK_START_EXEC 32 ticks after it.
 const TIMES: [u8; 17] = [0, 0, 0, 0, 0, 0, 0, 0, 0, 0, 15, 5, 0, 4, 129, 2, 32];
 
 /// Ten zeros behind a packet are five NOPs.

@@ -109,8 +109,8 @@ heads_by calls (t ∷ ts) cs =
     (cond t.command (drop 1 cs) cs))
 
 -- the same after a call that has a command or not
-abbrev pub heads_behind : Bool → List Origin → List StepTurn → List Asked → List Origin
-heads_behind b calls ts cs = cond b (first_head cs) [] ++ heads_by calls ts (cond b (drop 1 cs) cs)
+abbrev pub heads_after : Bool → List Origin → List StepTurn → List Asked → List Origin
+heads_after b calls ts cs = cond b (first_head cs) [] ++ heads_by calls ts (cond b (drop 1 cs) cs)
 
 -- these calls are those of the items
 abbrev AreCalls : List Item → List Origin → Type 0
@@ -123,7 +123,7 @@ abbrev pub AreHeadsBy : List Item → List Item → Type 0
 AreHeadsBy earlier later =
     (calls : List Origin) (cs rest : List Asked) → AreCalls earlier calls → commands_in later ++
     rest ≡ cs
-    → filter is_head (origins_of later) ≡ heads_behind (has_command later) calls (step_turns later)
+    → filter is_head (origins_of later) ≡ heads_after (has_command later) calls (step_turns later)
     cs
 
 -- an item that is no call leaves the calls
@@ -156,7 +156,7 @@ heads_more : (load : Load) (earlier later : List Item) (i : Item) (o : Origin) �
     → AreHeadsBy (i ∷ earlier) later → (calls : List Origin) (cs rest : List Asked) → AreCalls
     earlier calls → (command_in o ++ commands_in later) ++ rest ≡ cs
     → filter is_head (cond (not (is_overflow o)) (o ∷ origins_of later) (origins_of later))
-    ≡ heads_behind (cond (is_call o) false (is_command o || has_command later)) calls
+    ≡ heads_after (cond (is_call o) false (is_command o || has_command later)) calls
     (turn_at o later ++ step_turns later) cs
 heads_more load earlier later i (Call writer step) e next each more calls cs rest same split =
     let here : Call writer step ≡ next_call calls writer = ap (λ n. Call writer n)
@@ -164,16 +164,16 @@ heads_more load earlier later i (Call writer step) e next each more calls cs res
     ap (λ os. Call writer step ∷ os)
     (more (next_call calls writer ∷ calls) cs rest
     (calls_grow earlier calls i writer step e same) split)
-    ∙ ap (λ o. o ∷ heads_behind (has_command later) (next_call calls writer ∷ calls)
+    ∙ ap (λ o. o ∷ heads_after (has_command later) (next_call calls writer ∷ calls)
     (step_turns later) cs) here
 heads_more load earlier later i (Command byte param) e next each more calls cs rest same split =
     let known : has_command later ≡ false = not_twice load earlier later i each (ap is_command e) in
-    subst (λ ds. Command byte param ∷ filter is_head (origins_of later) ≡ heads_behind true calls
+    subst (λ ds. Command byte param ∷ filter is_head (origins_of later) ≡ heads_after true calls
     (step_turns later) ds) split
     (ap (λ os. Command byte param ∷ os)
     (more calls (commands_in later ++ rest) rest (calls_stay earlier calls i (ap is_call e) same)
     refl
-    ∙ ap (λ b. heads_behind b calls (step_turns later) (commands_in later ++ rest)) known))
+    ∙ ap (λ b. heads_after b calls (step_turns later) (commands_in later ++ rest)) known))
 heads_more load earlier later i Sync e next each more calls cs rest same split =
     more calls cs rest (calls_stay earlier calls i (ap is_call e) same) split
 heads_more load earlier later i (Reply kind index) e next each more calls cs rest same split =
@@ -188,7 +188,7 @@ heads_are load earlier [] each = λ calls cs rest same split. refl
 heads_are load earlier (i ∷ later) each = λ calls cs rest same split.
     heads_more load earlier later i i.origin refl each.0.step each.1
     (heads_are load (i ∷ earlier) later each.1) calls cs rest same split
-    ∙ ap (λ b. heads_behind b calls (step_turns (i ∷ later)) cs) (sym (has_command-cons i later))
+    ∙ ap (λ b. heads_after b calls (step_turns (i ∷ later)) cs) (sym (has_command-cons i later))
 
 -- the heads of a journal whose commands are the first of these
 pub heads_all : (load : Load) (items : List Item) (cs rest : List Asked)
@@ -196,4 +196,4 @@ pub heads_all : (load : Load) (items : List Item) (cs rest : List Asked)
     → filter is_head (origins_of items) ≡ heads_by [] (step_turns items) cs
 heads_all load items cs rest each split =
     heads_are load [] items each [] cs rest (λ writer. refl) split
-    ∙ ap (λ b. heads_behind b [] (step_turns items) cs) (not_again load [] items each refl)
+    ∙ ap (λ b. heads_after b [] (step_turns items) cs) (not_again load [] items each refl)

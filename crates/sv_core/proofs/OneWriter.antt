@@ -41,9 +41,9 @@ abbrev IsAnswer : Item → Type 0
 IsAnswer i = is_head i.origin ≡ false
 
 -- after an item with this freed, an overflow has it too
-behind-push : (items : List Item) (i : Item) (freed : ℕ) → i.freed ≡ freed
+after-push : (items : List Item) (i : Item) (freed : ℕ) → i.freed ≡ freed
     → overflow_freed (latest_first (items ++ i ∷ [])) freed ≡ freed
-behind-push items i freed e =
+after-push items i freed e =
     ap (λ (is : List Item). overflow_freed is freed) (latest_first-push items i) ∙ at
     (is_overflow i.origin) where
       at : (b : Bool) → cond b i.freed freed ≡ freed
@@ -68,7 +68,7 @@ all_go_on load items (i ∷ rest) done freed u some from behind all answers =
     subst (λ is. IsUnderWay load is done) (append_assoc items (i ∷ []) rest)
     (all_go_on load (items ++ i ∷ []) rest done freed next some
     (ap (λ is. stored_before load (before_overflow is)) (same_start items i call.0) ∙ from)
-    (behind-push items i freed here)
+    (after-push items i freed here)
     (All-tail (λ (j : Item). j.freed ≡ freed) i rest all)
     (All-tail IsAnswer i rest answers))
 
@@ -153,7 +153,7 @@ call_more load items rest c done step freed os u from behind other group heads a
     (all_go_on load (items ++ c ∷ []) rest (done + 1) freed next (omega arith)
     (ap (λ is. stored_before load (before_overflow is)) (first_start items c (ap is_call origin)) ∙
     from)
-    (behind-push items c freed here)
+    (after-push items c freed here)
     (All-tail (λ (j : Item). j.freed ≡ freed) c rest all)
     (all_answers rest none)) where
       heads_same : (a b : Origin) (os more : List Origin) → a ∷ os ≡ b ∷ more → a ≡ b
@@ -266,7 +266,7 @@ section_more load before (c ∷ d ∷ rest) done step u old new heads all =
           subst (λ is. IsUnderWay load is (done + 1)) (append_assoc before (c ∷ []) (d ∷ rest))
           (call_more load (before ++ c ∷ []) rest d done step (length (stream_of load before))
           (answers_of load (Call 0 step) ++ []) next from
-          (behind-push before c (length (stream_of load before)) here) g
+          (after-push before c (length (stream_of load before)) here) g
           (sym skip ∙ group) (ap (filter is_head) (sym skip) ∙ heads)
           (All-tail (λ (j : Item). j.freed ≡ length (stream_of load before)) c (d ∷ rest) all))
 

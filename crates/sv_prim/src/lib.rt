@@ -2,10 +2,11 @@
 //! bytes.
 //!
 //! The contract above this crate: [`get_u32`] and [`get_text`] say of any bytes whether they begin
-//! with a number or a text, end inside one, or break off at which byte. [`put_u32`] and
-//! [`put_text`] add a spelling to a packet, and [`number_spelled`] is the law that a number has no
-//! other. Beside them stands the arithmetic of ticks ([`delta`]) and of identifiers ([`shrink`],
-//! [`unshrink`], [`aligned`]).
+//! with a number or a text, end inside one, or break off at which byte; nothing else could be said
+//! of them. [`put_u32`] and [`put_text`] add the spelling that a function gives, and
+//! [`number_spelled`] is the law that a number has no other. That a text has no other is no law of
+//! this crate: it is proved above, of the texts in whole packets. Beside them stands the arithmetic
+//! of ticks ([`delta`]) and of identifiers ([`shrink`], [`unshrink`], [`aligned`]).
 #![tactic(auto)]
 
 mod buf;

@@ -1,4 +1,4 @@
--- A decoder at whose front an event stands, and behind it.
+-- A decoder at whose front an event stands, and after it.
 use Rattle.std.proofs.Common.{◌≡◌, ℕ, ◌+◌, ◌<◌, arith, length, List, [], ◌∷◌, ◌++◌, drop, refl, sym}
 use Rattle.std.proofs.Common.{ap, subst, ◌∙◌}
 use Rattle.sv_prim.specs.Code.{Begins, IsCutShort, BreaksAt}

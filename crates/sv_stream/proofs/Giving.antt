@@ -26,7 +26,7 @@ use Rattle.sv_stream.proofs.Sizes.{two_bytes}
 use Rattle.sv_prim.proofs.Shared.{begins_not_breaks}
 use Rattle.sv_stream.proofs.Telling.{less_begins_none}
 use Rattle.sv_stream.proofs.Times.{event_after}
-use Rattle.sv_stream.proofs.Standing.{IsBehind, IsPast, at_not_damaged, stands_less, stands_bad}
+use Rattle.sv_stream.proofs.Standing.{IsAfter, IsPast, at_not_damaged, stands_less, stands_bad}
 use Rattle.sv_stream.proofs.Standing.{stands_value, stands_past, stands_piece}
 
 abbrev pub at_time : ℕ → Event → TimedEvent
@@ -182,13 +182,13 @@ stood_same decoder view new is same input given s =
     subst (λ (d : Decoding). StandsFor d input given) is
     (same_stands new new view refl back input given s)
 
-pub behind_stands : (decoder view new : Decoding) (piece : List ℕ) (before : ℕ) → view ≡ decoder →
-    IsBehind view new piece before
+pub after_stands : (decoder view new : Decoding) (piece : List ℕ) (before : ℕ) → view ≡ decoder →
+    IsAfter view new piece before
     → ((input : List ℕ) → IsBefore view.stage input →
     Finds new.stage input (take before piece) (drop before piece)) →
     (view.stage ≡ Body → (new.stage ≡ Body) × (before ≡ 0))
     → (input : List ℕ) (given : List TimedEvent) → StandsFor decoder input given →
     StandsFor new (input ++ piece) given
-behind_stands decoder view new piece before same behind finds body input given s =
+after_stands decoder view new piece before same behind finds body input given s =
     stands_piece view new piece before behind finds body input given
     (subst (λ (d : Decoding). StandsFor d input given) (sym same) s)

@@ -32,7 +32,7 @@ use Rattle.sv_stream.proofs.Packets.{readable}
 
 -- a decoder after a piece: so many of its bytes stand before the first packet, and the others are
 -- held
-pub record IsBehind (old new : Decoding) (piece : List ℕ) (before : ℕ) : Type 0 where
+pub record IsAfter (old new : Decoding) (piece : List ℕ) (before : ℕ) : Type 0 where
   pub within : before ≤ length piece
   pub held : new.held ≡ old.held ++ drop before piece
   pub place : new.place ≡ old.place + before
@@ -44,7 +44,7 @@ all_taken before piece none =
     ∙ take-append-drop before piece
 
 still_waiting : (old new : Decoding) (piece : List ℕ) (before : ℕ) (given : List TimedEvent) →
-    IsBehind old new piece before → drop before piece ≡ [] → IsWaiting old given →
+    IsAfter old new piece before → drop before piece ≡ [] → IsWaiting old given →
     IsWaiting new given
 still_waiting old new piece before given b none w = record {
   none = w.none;
@@ -54,7 +54,7 @@ still_waiting old new piece before given b none w = record {
 
 waiting_piece :
     (stage : Stage) (old new : Decoding) (input piece : List ℕ) (before : ℕ)
-    (given : List TimedEvent) → IsBehind old new piece before → pushed old ≡ length input
+    (given : List TimedEvent) → IsAfter old new piece before → pushed old ≡ length input
     → IsWaiting old given → Finds stage input (take before piece) (drop before piece) →
     IsSoFar stage new (input ++ piece) given
 waiting_piece (Searching zeros) old new input piece before given b all w (s, none) = (
@@ -99,7 +99,7 @@ not_nothing [] piece some = absurd (some refl)
 not_nothing (x ∷ body) piece some = λ e. absurd cc
 
 reading_piece : (old new : Decoding) (input piece : List ℕ) (before : ℕ) (given : List TimedEvent) →
-    IsBehind old new piece before → before ≡ 0 → IsReading old input given →
+    IsAfter old new piece before → before ≡ 0 → IsReading old input given →
     IsReading new (input ++ piece) given
 reading_piece old new input piece before given b none r =
     let held : old.held ++ piece ≡ new.held =
@@ -124,7 +124,7 @@ reading_piece old new input piece before given b none r =
 
 so_far_piece :
     (s t : Stage) (old new : Decoding) (input piece : List ℕ) (before : ℕ)
-    (given : List TimedEvent) → IsBehind old new piece before → pushed old ≡ length input
+    (given : List TimedEvent) → IsAfter old new piece before → pushed old ≡ length input
     → (IsBefore s input → Finds t input (take before piece) (drop before piece)) →
     (s ≡ Body → (t ≡ Body) × (before ≡ 0)) → IsSoFar s old input given →
     IsSoFar t new (input ++ piece) given
@@ -138,7 +138,7 @@ so_far_piece Body t old new input piece before given b all finds body r =
     (reading_piece old new input piece before given b on.1 r)
 
 pub stands_piece : (old new : Decoding) (piece : List ℕ) (before : ℕ) →
-    IsBehind old new piece before
+    IsAfter old new piece before
     → ((input : List ℕ) → IsBefore old.stage input →
     Finds new.stage input (take before piece) (drop before piece)) →
     (old.stage ≡ Body → (new.stage ≡ Body) × (before ≡ 0))

@@ -1,7 +1,7 @@
 use Rattle.std.proofs.Common.{◌++◌, ◌∙◌, drop, refl, ap}
 use Rattle.std.specs.Prelude.{Bool, if◌then◌else◌, not}
 use Rattle.sv_stream.specs.contracts.decoder.Decoder.{the_view}
-use Rattle.sv_stream.proofs.Giving.{behind_stands}
+use Rattle.sv_stream.proofs.Giving.{after_stands}
 use Rattle.sv_stream.proofs.decoder.Decoder.push.Goals as goal
 
 pub returns-clause-stands : goal.returns-clause-stands
@@ -12,7 +12,7 @@ returns-clause-stands c =
     let is =
     ap (λ (t : Bool). if t then more else held)
     (c.is_err.ensures.negation ∙ ap not c.if-is_err.false) in
-    behind_stands c.args.self.now (the_view c.self.inside) _ c.args.piece.now before c.self.view_is
+    after_stands c.args.self.now (the_view c.self.inside) _ c.args.piece.now before c.self.view_is
     (record {
       within = c.search-stage.ensures.within;
       held = c.append.ensures.items ∙ is;

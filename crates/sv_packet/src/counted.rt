@@ -1,5 +1,5 @@
 //! Payloads under a length field: the forms of the identifiers 24 to 29, and any other as bytes.
-ghost use Rattle.std.specs.Prelude.{◌≡◌, ℕ, ◌≤◌, ◌↔◌, List, length, IsTrue, MatchOption};
+ghost use Rattle.std.specs.Prelude.{◌≡◌, ℕ, ◌≤◌, ◌↔◌, List, length, IsTrue, true, MatchOption};
 ghost use Rattle.sv_packet.specs.EventRef.{seen};
 ghost use Rattle.sv_packet.specs.Packet.{IsForm};
 ghost use Rattle.sv_packet.specs.Parts.{AreNumbers};
@@ -146,12 +146,24 @@ pub fn is_form(id: u16, payload: &[u8]) -> bool
     find_form(id, payload).is_some()
 }
 
+/// Whether no payload of the identifier is a form.
+#[inline(always)]
+fn has_no_form(id: u16) -> bool
+    requires { 24 ≤ id }
+    ensures { (payload : List ℕ) → result ≡ true → IsForm id payload → ⊥ }
+{
+    id > 29
+}
+
 /// The event of the payload under a length field: of its form, or else the payload as it stands.
 #[inline(always)]
 pub fn counted_event(id: u16, payload: &[u8]) -> EventRef<'_>
     requires { IsCountedId id }
     ensures { IsEventOf id payload.now (seen result) }
 {
+    if has_no_form(id) {
+        return EventRef::Opaque { id, payload };
+    }
     match find_form(id, payload) {
         None => EventRef::Opaque { id, payload },
         Some(Form::Regular { four, text }) => regular_event(id, four, text),

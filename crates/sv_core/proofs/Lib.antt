@@ -10,3 +10,16 @@ pub mod OneJournal
 pub mod Runnable
 pub mod Loop
 pub mod Shared
+pub mod Facts
+pub mod Pushed
+pub mod Answers
+pub mod Once
+pub mod Settling
+pub mod Counts
+pub mod Bad
+pub mod Planned
+pub mod Making
+pub mod Section
+pub mod Total
+pub mod Rising
+pub mod Turning

@@ -23,3 +23,5 @@ pub mod Section
 pub mod Total
 pub mod Rising
 pub mod Turning
+pub mod Counting
+pub mod Taking

@@ -55,7 +55,7 @@ each-here P done rest i each =
 
 -- IN A LOOP
 
-taken : (all : List Item) (k : ℕ) (d : Item) → k < length all → take (k + 1) all ≡ take k all ++ slice_index_or all k d ∷ []
+pub taken : (all : List Item) (k : ℕ) (d : Item) → k < length all → take (k + 1) all ≡ take k all ++ slice_index_or all k d ∷ []
 taken all k d below = ap (λ n. take n all) next ∙ take_one k all (slice_index_or all k d) (slice_get-get_or all k d below) where
   next : k + 1 ≡ suc k
   next = omega arith

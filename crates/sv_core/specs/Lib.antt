@@ -7,3 +7,5 @@ pub mod Turned
 pub mod Settled
 pub mod Bad
 pub mod Rise
+pub mod Used
+pub mod Planned

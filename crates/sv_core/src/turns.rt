@@ -28,7 +28,7 @@ pub struct Turns {
 
 /// Whether an item was written to the ring, or tried. `after_lost` says whether a refused overflow
 /// stands directly before it.
-fn is_written(item: &Item, after_lost: bool) -> bool
+pub fn is_written(item: &Item, after_lost: bool) -> bool
     ensures { (earlier : List Kept) → is_after_refused_overflow earlier ≡ after_lost →
         writes earlier item.now ≡ result }
 {
@@ -53,7 +53,7 @@ fn ask_last(steps: &mut Vec<StepTurn>)
 }
 
 /// Whether an item is an overflow that was refused.
-fn is_lost(item: &Item) -> bool
+pub fn is_lost(item: &Item) -> bool
     ensures { result ≡ (is_overflow item.now.origin && is_refused item.now.outcome) }
 {
     match item.origin {

@@ -3,3 +3,9 @@ pub mod Order
 pub mod Simulated
 pub mod Built
 pub mod Start
+pub mod Turned
+pub mod Settled
+pub mod Bad
+pub mod Rise
+pub mod Used
+pub mod Planned

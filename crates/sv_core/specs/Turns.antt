@@ -8,11 +8,7 @@ use Rattle.sv_recorder.specs.declared.journal.Origin.TheVariants.{Call}
 use Rattle.sv_recorder.specs.declared.journal.Item.{Item}
 use Rattle.sv_recorder.specs.Items.{latest_first, is_call, is_command, is_written}
 use Rattle.sv_recorder.specs.Legal.{IsLegal, EachItem, AreFirstCommands}
-
--- a writer's step, and whether its section handles a command
-pub record StepTurn : Type 0 where
-  pub writer : ℕ
-  pub command : Bool
+pub use Rattle.sv_core.specs.declared.turns.StepTurn.{StepTurn}
 
 -- what a journal's run was: its steps, and the bytes that were freed before each write
 pub record Turns : Type 0 where

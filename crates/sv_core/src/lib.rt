@@ -7,9 +7,14 @@
 #![tactic(auto)]
 
 mod laws;
+mod plan_ring;
+mod replays;
 mod simulation;
 mod start;
+mod turns;
 
-pub use laws::simulated_once;
+pub use laws::{bad_turns, frees_small, replay_same, replayed_once, simulated_once};
+pub use replays::{ReplayFault, Simulated, replay};
 pub use simulation::{is_built, simulate};
 pub use start::has_start;
+pub use turns::{StepTurn, Turns, turns_of};

@@ -1,5 +1,4 @@
--- What crates above may use: codes that are read from the front, one after another, numbers and
--- texts.
+-- What crates above may use: codes that are read from the front, one after another, numbers and texts.
 pub use Rattle.sv_prim.proofs.Below.{are_bytes, bytes_behind, bytes_both, bytes_front, zeros}
 pub use Rattle.sv_prim.proofs.Carried.{carried_breaks, carried_short, carried_total}
 pub use Rattle.sv_prim.proofs.Codes.{begins_not_breaks, begins_not_cut, begins_once, breaks_once}

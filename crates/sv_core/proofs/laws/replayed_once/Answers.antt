@@ -1,0 +1,5 @@
+use Rattle.sv_core.proofs.Once.{replayed_once}
+use Rattle.sv_core.proofs.laws.replayed_once.Goals as goal
+
+pub returns : goal.returns
+returns c = replayed_once

@@ -1,0 +1,9 @@
+use Rattle.sv_core.specs.Used.{IsCounted}
+use Rattle.sv_core.proofs.Taking.{IsTaking}
+use Rattle.sv_core.proofs.replays.take_turns.Given as goal
+
+abbrev pub invariant-loop-at : goal.invariant-loop-at
+invariant-loop-at g l =
+    IsTaking l.load l.steps l.frees l.at l.recorder.load l.recorder.items l.recorder.sent
+    l.recorder.way l.recorder.freed
+    × IsCounted l.recorder.items l.frees l.used.count l.used.freed l.used.after_lost

@@ -1,0 +1,157 @@
+//! Replays: the steps of turns again, over a ring that frees by their numbers.
+ghost use Rattle.std.specs.Prelude.{◌≡◌, ◌≤◌, ℕ, true, [], IfOk, IsErrOf, MatchOption, length, take};
+ghost use Rattle.sv_ring.specs.Ring.{Plan};
+ghost use Rattle.sv_recorder.specs.Plain.{IsPlain};
+ghost use Rattle.sv_recorder.specs.Stream.{stream_of};
+ghost use Rattle.sv_core.specs.Bad.{IsBadTurns};
+ghost use Rattle.sv_core.specs.Turns.{IsReplayed};
+ghost use Rattle.sv_core.specs.Turned.{kept};
+ghost use Rattle.sv_core.specs.Used.{IsCounted, IsUsingOthers};
+
+use crate::plan_ring::PlanRing;
+use crate::turns::{Turns, is_lost, is_written};
+use std::alloc::Global;
+use sv_prim::NoMemory;
+use sv_recorder::{Item, Journal, Recorder};
+use sv_ring::UpWriter;
+use sv_workload::Workload;
+use thiserror::Error;
+
+/// Why turns are not replayed.
+#[derive(Clone, Copy, Debug, PartialEq, Eq, Error)]
+pub enum ReplayFault {
+    /// The turn at this place, counted from 0, cannot be taken: its writer does not exist or is
+    /// through, its command does not exist, or in it the frees run out or free more than is stored
+    /// and not freed. At the number of turns frees are left over.
+    #[error("bad turns at {at}")]
+    BadTurns { at: u64 },
+    /// There was no memory for the journal or the bytes.
+    #[error("no memory")]
+    NoMemory,
+}
+
+/// A whole run: its journal, and all bytes that were sent.
+#[derive(Drop)]
+pub struct Simulated {
+    pub journal: Journal,
+    pub bytes: Vec<u8>,
+}
+
+/// How many frees are used by the items so far, how many bytes the last written item found freed,
+/// and whether a refused overflow stands last.
+#[derive(Clone, Copy)]
+struct Used {
+    count: usize,
+    freed: u64,
+    after_lost: bool,
+}
+
+/// What the items from a place on use more of the frees. None where they free by others.
+fn used_from(items: &[Item], from: usize, frees: &[u32], before: Used) -> Option<Used>
+    requires from { from ≤ length items.now }
+    requires counted { IsCounted (take from items.now) frees.now
+        before.count before.freed before.after_lost }
+    ensures { MatchOption result (IsUsingOthers items.now frees.now)
+        (λ used. IsCounted items.now frees.now used.count used.freed used.after_lost) }
+{
+    let mut used = before;
+    for place in from..items.len() {
+        let item = &items[place];
+        if is_written(item, used.after_lost) {
+            if used.count == frees.len()
+                || item.freed.saturating_sub(used.freed) != u64::from(frees[used.count])
+            {
+                return None;
+            }
+            used.count += 1;
+            used.freed = item.freed;
+        }
+        used.after_lost = is_lost(item);
+    }
+    Some(used)
+}
+
+/// Takes the turns, over a ring that frees by the plan of their frees. Says where they fail, if
+/// they do.
+fn take_turns<U: UpWriter + Drop>(
+    load: &Workload,
+    recorder: &mut Recorder<'_, U>,
+    turns: &Turns,
+) -> Option<u64>
+    requires plain { IsPlain load.now }
+    requires load { recorder.old.load ≡ load.now }
+    requires items { recorder.old.items ≡ [] }
+    requires freed { recorder.old.freed ≡ 0 }
+    requires way { recorder.old.way ≡ Plan turns.now.frees.items }
+    ensures told { MatchOption result (IsReplayed load.now (kept turns.now) recorder.new.items)
+        (IsBadTurns load.now (kept turns.now)) }
+    ensures stream { recorder.new.sent ≡ stream_of load.now recorder.new.items }
+{
+    recorder.keeps();
+    let steps = turns.steps.as_slice();
+    let frees = turns.frees.as_slice();
+    let mut used = Used {
+        count: 0,
+        freed: 0,
+        after_lost: false,
+    };
+    for at in 0..steps.len() {
+        let turn = steps[at];
+        if turn.command {
+            return Some(at as u64);
+        }
+        if turn.writer >= load.writers() {
+            return Some(at as u64);
+        }
+        let from = recorder.journal().items().len();
+        match recorder.section(turn.writer) {
+            None => return Some(at as u64),
+            Some(_) => {}
+        }
+        recorder.keeps();
+        match used_from(recorder.journal().items(), from, frees, used) {
+            None => return Some(at as u64),
+            Some(more) => used = more,
+        }
+    }
+    if used.count == frees.len() {
+        None
+    } else {
+        Some(steps.len() as u64)
+    }
+}
+
+/// Runs a workload again, turn by turn: each turn is the next step of its writer, and before each
+/// write the next number of bytes is freed. Turns that [`turns_of`] read from a legal journal give
+/// that journal again, but for what unwritten items found freed, and its bytes ([`replay_same`]).
+///
+/// BadTurns comes exactly where no such run exists, with the place of the first turn that cannot be
+/// taken. Memory is taken once for the journal and once for the bytes.
+///
+/// [`turns_of`]: crate::turns_of
+/// [`replay_same`]: crate::replay_same
+pub fn replay(alloc: Global, load: &Workload, turns: &Turns) -> Result<Simulated, ReplayFault>
+    requires plain { IsPlain load.now }
+    ensures replayed { IfOk result (λ run. IsReplayed load.now (kept turns.now) run.journal.items) }
+    ensures bytes { IfOk result (λ run. run.bytes.items ≡ stream_of load.now run.journal.items) }
+    ensures bad { (at : ℕ) → IsErrOf result (ReplayFault.BadTurns at) →
+        IsBadTurns load.now (kept turns.now) at }
+{
+    let frees = turns.frees.as_slice();
+    let Ok(up) = PlanRing::new(alloc, load.ring(), load.need().bytes, frees) else {
+        return Err(ReplayFault::NoMemory);
+    };
+    let Ok(mut recorder) = Recorder::new(alloc, load, up) else {
+        return Err(ReplayFault::NoMemory);
+    };
+    match take_turns(load, &mut recorder, turns) {
+        Some(at) => Err(ReplayFault::BadTurns { at }),
+        None => {
+            let run = recorder.finish();
+            Ok(Simulated {
+                journal: run.journal,
+                bytes: run.up.into_bytes(),
+            })
+        }
+    }
+}

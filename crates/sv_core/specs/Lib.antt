@@ -5,7 +5,7 @@ pub mod Built
 pub mod Start
 pub mod Turned
 pub mod Settled
-pub mod Bad
-pub mod Rise
+pub mod BadTurns
+pub mod Rises
 pub mod Used
 pub mod Planned

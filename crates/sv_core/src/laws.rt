@@ -6,8 +6,8 @@ ghost use Rattle.sv_recorder.specs.Legal.{IsLegal, AreFirstCommands, EachItem};
 ghost use Rattle.sv_recorder.specs.Stream.{stream_of};
 ghost use Rattle.sv_core.specs.Simulated.{IsSimulated};
 ghost use Rattle.sv_core.specs.Turns.{Turns, IsReplayed, IsSameButIdle, turns_of, frees_before};
-ghost use Rattle.sv_core.specs.Bad.{IsBadTurns, AreAskable};
-ghost use Rattle.sv_core.specs.Rise.{IsRise};
+ghost use Rattle.sv_core.specs.BadTurns.{IsBadTurns, AreAskable};
+ghost use Rattle.sv_core.specs.Rises.{IsRise};
 ghost use Rattle.sv_core.specs.Turned.{RisesLittle};
 ghost use Rattle.sv_core.specs.Settled.{settled};
 
@@ -40,18 +40,20 @@ pub fn replay_same()
         AreFirstCommands load items → IsBadTurns load (turns_of items) at → ⊥ }
 {}
 
-/// The law of bad turns: they give no journal, and fail at one place. All other turns give one, where
-/// the workload's commands have parameters from 128 on alone.
+/// The law of bad turns: they give no journal, and fail at one place. All other turns give one,
+/// where the workload's commands have parameters from 128 on alone.
 pub fn bad_turns()
     ensures apart { (load : Load) → (turns : Turns) → (at : ℕ) → (items : List Item) →
         IsBadTurns load turns at → IsReplayed load turns items → ⊥ }
     ensures once { (load : Load) → (turns : Turns) → (a b : ℕ) →
         IsBadTurns load turns a → IsBadTurns load turns b → a ≡ b }
     ensures either { (load : Load) → (turns : Turns) → AreAskable load →
-        ((at : ℕ) × IsBadTurns load turns at) ⊎ ((items : List Item) × IsReplayed load turns items) }
+        ((at : ℕ) × IsBadTurns load turns at) ⊎
+        ((items : List Item) × IsReplayed load turns items) }
 {}
 
-/// The law of a journal's frees: from one written item to the next no more is freed than the ring holds.
+/// The law of a journal's frees: from one written item to the next no more is freed than the ring
+/// holds.
 pub fn frees_small()
     ensures rises { (load : Load) → (items : List Item) → IsLegal load items →
         EachItem (IsRise (load.ring - 1)) (latest_first items) }

@@ -1,9 +1,10 @@
 //! Whole runs of a workload: in which order its writers and the host take their turns, the journal
 //! that such a run gives, and the simulation that runs it over one ring.
 //!
-//! The contract above this crate is that of [`simulate`]: the journal is legal, whole and in the
-//! order of a simulation, and the bytes that were sent are its stream. By the law
-//! [`simulated_once`] a workload has one such journal at most.
+//! The contracts above this crate are those of [`simulate`], whose journal is legal, whole and in
+//! the order of a simulation, and of [`replay`], which runs the turns of a journal again or says at
+//! which of them no run goes on. By the laws [`simulated_once`] and [`replayed_once`] a workload,
+//! and a workload with turns, has one such journal at most.
 #![tactic(auto)]
 
 mod laws;
@@ -18,3 +19,6 @@ pub use replays::{ReplayFault, Simulated, replay};
 pub use simulation::{is_built, simulate};
 pub use start::has_start;
 pub use turns::{StepTurn, Turns, turns_of};
+
+#[cfg(test)]
+mod tests;

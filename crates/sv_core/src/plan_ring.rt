@@ -53,7 +53,12 @@ impl<'a> PlanRing<'a> {
         requires size { (64 ≤ size) × (size ≤ 65536) }
         requires limit { limit ≤ 2 ^ 33 }
         ensures { IfOk result (λ ring. ring ≡ record {
-          sent = []; freed = 0; size = size; limit = limit; left = frees.now }) }
+          sent = [];
+          freed = 0;
+          size = size;
+          limit = limit;
+          left = frees.now;
+        }) }
     {
         let Ok(room) = usize::try_from(limit) else {
             return Err(NoMemory);

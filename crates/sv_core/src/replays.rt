@@ -1,9 +1,10 @@
 //! Replays: the steps of turns again, over a ring that frees by their numbers.
-ghost use Rattle.std.specs.Prelude.{◌≡◌, ◌≤◌, ℕ, true, [], IfOk, IsErrOf, MatchOption, length, take};
+ghost use Rattle.std.specs.Prelude.{◌≡◌, ◌≤◌, ℕ, true, [], IfOk, IsErrOf, MatchOption, length};
+ghost use Rattle.std.specs.Prelude.{take};
 ghost use Rattle.sv_ring.specs.Ring.{Plan};
 ghost use Rattle.sv_recorder.specs.Plain.{IsPlain};
 ghost use Rattle.sv_recorder.specs.Stream.{stream_of};
-ghost use Rattle.sv_core.specs.Bad.{IsBadTurns};
+ghost use Rattle.sv_core.specs.BadTurns.{IsBadTurns};
 ghost use Rattle.sv_core.specs.Turns.{IsReplayed};
 ghost use Rattle.sv_core.specs.Turned.{kept};
 ghost use Rattle.sv_core.specs.Used.{IsCounted, IsUsingOthers};

@@ -85,9 +85,9 @@ fn pass(steps: &mut Vec<StepTurn>, origin: Origin) -> Result<(), NoMemory>
     }
 }
 
-/// The turns of a journal: a turn for each call, with a command where one is handled before the next
-/// call, and for each packet that was offered to the ring the bytes that the host freed since the one
-/// before. A legal journal over a ring of at most 2^32 bytes frees so little (the law
+/// The turns of a journal: a turn for each call, with a command where one is handled before the
+/// next call, and for each packet that was offered to the ring the bytes that the host freed since
+/// the one before. A legal journal over a ring of at most 2^32 bytes frees so little (the law
 /// [`frees_small`]). NoMemory comes only from the lists that are made.
 ///
 /// [`frees_small`]: crate::frees_small

@@ -1,5 +1,5 @@
 use Rattle.sv_core.specs.Used.{IsCounted}
-use Rattle.sv_core.proofs.Taking.{IsTaking}
+use Rattle.sv_core.proofs.TurnsTaken.{IsTaking}
 use Rattle.sv_core.proofs.replays.take_turns.Given as goal
 
 abbrev pub invariant-loop-at : goal.invariant-loop-at

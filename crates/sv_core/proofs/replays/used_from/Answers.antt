@@ -1,7 +1,9 @@
 use Rattle.std.proofs.Common.{◌≡◌, length, sym, ◌∙◌, arith, rules}
-use Rattle.sv_core.proofs.Counting.{counted-other}
+use Rattle.sv_core.proofs.FreesCounted.{counted-other}
 use Rattle.sv_core.proofs.replays.used_from.Goals.{then-used-frees-via-then-used-frees}
-use Rattle.sv_core.proofs.replays.used_from.Goals.{then-used-frees-via-else-used-frees+then-saturating_sub-from}
+use Rattle.sv_core.proofs.replays.used_from.Goals.{
+  then-used-frees-via-else-used-frees+then-saturating_sub-from,
+}
 use Rattle.sv_core.proofs.replays.used_from.Goals as goal
 
 pub returns-then-used-frees : goal.returns-then-used-frees
@@ -13,7 +15,7 @@ returns-then-used-frees c =
     (elim c.then-used-frees.branch [
       | then-used-frees-via-then-used-frees w ↦ λ few same.
           let e : c.loop-place.used.count ≡ length c.args.frees.now =
-              search (rules, w.if-used-frees.true) in
+          search (rules, w.if-used-frees.true) in
           omega (arith, few, e)
       | then-used-frees-via-else-used-frees+then-saturating_sub-from w ↦ λ few same.
           w.if-saturating_sub-from.true (w.saturating_sub.ensures ∙ same ∙ sym w.from.ensures)

@@ -22,7 +22,8 @@ returns-in_default-text_if c =
 
 pub returns-then-payload-reader : goal.returns-then-payload-reader
 returns-then-payload-reader c =
-    regular_less c.args.id c.shape_of-count.result.0 c.shape_of-count.result.1 c.shape_of-count.ensures.numbers
+    regular_less c.args.id c.shape_of-count.result.0 c.shape_of-count.result.1
+    c.shape_of-count.ensures.numbers
     c.shape_of-count.ensures.text c.requires _ c.numbers.new.self c.text_if.new.self
     (numbers_in c.shape_of-count.result.0 c.in-Ok.four) c.in-Ok-text_if.text.now
     c.in-Ok.ensures c.in-Ok-text_if.ensures (omega (arith, c.if-payload-reader.true))
@@ -34,7 +35,8 @@ returns c = (
       (λ (k : ℕ).
       AreFields (fields_by c.args.id (numbers_in k c.in-Ok.four) c.in-Ok-text_if.text.now)
       c.args.payload.now) c.shape_of-count.ensures.numbers
-      (regular_all c.args.id c.shape_of-count.result.0 c.shape_of-count.result.1 c.shape_of-count.ensures.numbers
+      (regular_all c.args.id c.shape_of-count.result.0 c.shape_of-count.result.1
+      c.shape_of-count.ensures.numbers
       c.shape_of-count.ensures.text c.requires _ c.numbers.new.self c.text_if.new.self
       (numbers_in c.shape_of-count.result.0 c.in-Ok.four) c.in-Ok-text_if.text.now
       c.in-Ok.ensures c.in-Ok-text_if.ensures (omega (arith, c.if-payload-reader.false))),

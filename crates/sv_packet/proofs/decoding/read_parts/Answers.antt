@@ -70,7 +70,8 @@ returns-in_err-bytes-2 c =
     (stops_at_text c.args.reader.now c.identifier.new.self c.in_ok-id.id c.in_ok-id.ensures
     (omega (arith, c.if-id-ge24.false)) c.shape_of-count.result.0 c.shape_of-count.ensures.numbers
     c.numbers.new.self (numbers_in c.shape_of-count.result.0 c.in_ok-four.four)
-    c.in_ok-four.ensures c.shape_of-count.result.1 c.shape_of-count.ensures.text c.in_err-bytes-2.field-0.0
+    c.in_ok-four.ensures c.shape_of-count.result.1 c.shape_of-count.ensures.text
+    c.in_err-bytes-2.field-0.0
     c.in_err-bytes-2.ensures)
 
 pub returns-in_err-delta-2 : goal.returns-in_err-delta-2

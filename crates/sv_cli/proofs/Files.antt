@@ -15,7 +15,7 @@ use Rattle.sv_stream.specs.Decoding.{IsDamaged}
 use Rattle.sv_cli.specs.declared.status.Status.{Status}
 use Rattle.sv_cli.specs.declared.status.Status.TheVariants.{Done, Usage, ReadFault, WriteFault}
 use Rattle.sv_cli.specs.declared.status.Status.TheVariants.{Damaged, Truncated, NoSync, Workload}
-use Rattle.sv_cli.specs.declared.status.Status.TheVariants.{TooLong, NoMemory, Unbuilt}
+use Rattle.sv_cli.specs.declared.status.Status.TheVariants.{TooLong, NoMemory}
 use Rattle.sv_cli.specs.Answer.{IsWhole, IsPart, IsAnswer, IsShown}
 use Rattle.sv_cli.specs.Devices.{HasTaken, OfFile}
 use Rattle.sv_cli.specs.Reading.{IsReadWhole}
@@ -63,7 +63,6 @@ module _ (text : Text) (taken : List ℕ) (all every : Type 0) (old new : Option
   answer_then front NoMemory a = part a
   answer_then front Usage a = absurd a
   answer_then front (Workload line reason) a = absurd a
-  answer_then front (Unbuilt place) a = absurd a
 
   pub shown_then : (status : Status) → IsShown text taken all old new status → IsShown text taken
       every old new status

@@ -4,7 +4,7 @@ use Rattle.std.proofs.Common.{◌≡◌, ℕ, zero, suc, Bool, false, List, [], 
 use Rattle.std.proofs.Common.{refl, sym, ap, ◌∙◌, subst}
 use Rattle.std.specs.Prelude.{position, codes, IfSome}
 use Rattle.std.specs.Str.{bytes_eq}
-use Rattle.sv_recorder.specs.declared.journal.Item.{Item}
+use Rattle.sv_journal.specs.declared.journal.Item.{Item}
 use Rattle.sv_cli.specs.declared.command.Command.{Command}
 use Rattle.sv_cli.specs.declared.command.Command.TheVariants.{Events, Check, Record}
 use Rattle.sv_cli.specs.declared.status.Status.{Status}

@@ -1,6 +1,6 @@
 -- What the answer of each command means.
 use Rattle.std.specs.Prelude.{◌≡◌, ℕ, List, [], Option}
-use Rattle.sv_recorder.specs.declared.journal.Item.{Item}
+use Rattle.sv_journal.specs.declared.journal.Item.{Item}
 use Rattle.sv_cli.specs.declared.command.Command.{Command}
 use Rattle.sv_cli.specs.declared.command.Command.TheVariants.{Events, Check, Record}
 use Rattle.sv_cli.specs.declared.status.Status.{Status}

@@ -4,7 +4,7 @@ use Rattle.std.specs.Fmt.{decimal}
 use Rattle.sv_cli.specs.declared.status.Status.{Status}
 use Rattle.sv_cli.specs.declared.status.Status.TheVariants.{Done, Usage, ReadFault, WriteFault}
 use Rattle.sv_cli.specs.declared.status.Status.TheVariants.{Damaged, Truncated, NoSync, Workload}
-use Rattle.sv_cli.specs.declared.status.Status.TheVariants.{TooLong, NoMemory, Unbuilt}
+use Rattle.sv_cli.specs.declared.status.Status.TheVariants.{TooLong, NoMemory}
 
 -- the forms of all commands
 abbrev pub usage_line : List ℕ
@@ -24,4 +24,3 @@ error_line (Workload line reason) =
     codes "workload line " ++ (decimal line ++ (codes " reason " ++ (decimal reason ++ codes "\n")))
 error_line (TooLong limit) = codes "longer than " ++ (decimal limit ++ codes "\n")
 error_line NoMemory = codes "no memory\n"
-error_line (Unbuilt place) = codes "not built at " ++ (decimal place ++ codes "\n")

@@ -5,9 +5,8 @@ use Rattle.std.specs.Io.KnownBytes.{Appends}
 use Rattle.sv_base.specs.Streams.{AppendsPart}
 use Rattle.sv_workload.specs.Load.{Load}
 use Rattle.sv_workload.specs.Grammar.{first_reason, IsWorkload}
-use Rattle.sv_recorder.specs.declared.journal.Item.{Item}
-use Rattle.sv_recorder.specs.Stream.{stream_of}
-use Rattle.sv_core.specs.Built.{is_built}
+use Rattle.sv_journal.specs.declared.journal.Item.{Item}
+use Rattle.sv_journal.specs.Stream.{stream_of}
 use Rattle.sv_core.specs.Simulated.{IsSimulated}
 use Rattle.sv_core.specs.Start.{has_start}
 use Rattle.sv_cli.specs.declared.simulated.Unsimulated.{Unsimulated}
@@ -15,7 +14,7 @@ use Rattle.sv_cli.specs.declared.simulated.Unsimulated.TheVariants as faults
 use Rattle.sv_cli.specs.declared.status.Status.{Status}
 use Rattle.sv_cli.specs.declared.status.Status.TheVariants.{Done, ReadFault, WriteFault}
 use Rattle.sv_cli.specs.declared.status.Status.TheVariants.{NoSync, Workload}
-use Rattle.sv_cli.specs.declared.status.Status.TheVariants.{TooLong, NoMemory, Unbuilt}
+use Rattle.sv_cli.specs.declared.status.Status.TheVariants.{TooLong, NoMemory}
 
 -- the most bytes of a workload
 abbrev pub most_of_workload : ℕ
@@ -29,10 +28,9 @@ header = codes "; sysview recording\n"
 abbrev pub recording_text : Load → List Item → List ℕ
 recording_text load items = header ++ stream_of load items
 
--- the text says this workload, it is built, and the journal is that of its simulation
+-- the text says this workload, and the journal is that of its simulation
 pub record IsRun (text : List ℕ) (load : Load) (items : List Item) : Type 0 where
   pub says : IsWorkload text load
-  pub built : is_built load ≡ true
   pub simulated : IsSimulated load items
 
 -- the whole recording of a run is written, which has a start or not
@@ -50,12 +48,6 @@ pub record IsRecordingPart (text : List ℕ) (old new : Option (List ℕ))
   pub run : IsRun text load items
   pub part : AppendsPart old new (recording_text load items)
 
--- the text says a workload that is not built
-pub record IsUnbuilt (text : List ℕ) : Type 0 where
-  pub load : Load
-  pub says : IsWorkload text load
-  pub unbuilt : is_built load ≡ false
-
 -- nothing is written, and there is no journal
 abbrev pub IsNothing : Option (List ℕ) → Option (List ℕ) → List Item → Type 0
 IsNothing old new items = Appends old new [] × (items ≡ [])
@@ -67,8 +59,6 @@ IsTextRecorded text old new items NoSync = IsRecording text old new items false
 IsTextRecorded text old new items WriteFault = IsRecordingPart text old new items
 IsTextRecorded text old new items (Workload line reason) =
     (first_reason text ≡ Some (line, reason)) × IsNothing old new items
-IsTextRecorded text old new items (Unbuilt place) =
-    (place ≡ length text) × IsUnbuilt text × IsNothing old new items
 IsTextRecorded text old new items NoMemory = IsNothing old new items
 IsTextRecorded text old new items other = ⊥
 
@@ -87,7 +77,6 @@ IsRecorded file taken old new items other =
 -- why a text has no simulation
 abbrev pub IsUnsimulated : List ℕ → Unsimulated → Type 0
 IsUnsimulated text (faults.Line line reason) = first_reason text ≡ Some (line, reason)
-IsUnsimulated text faults.Unbuilt = IsUnbuilt text
 IsUnsimulated text faults.NoMemory = Unit {0}
 
 -- a workload that ends so has written nothing at all
@@ -95,5 +84,4 @@ abbrev pub is_unwritten : Status → Bool
 is_unwritten ReadFault = true
 is_unwritten (TooLong limit) = true
 is_unwritten (Workload line reason) = true
-is_unwritten (Unbuilt place) = true
 is_unwritten status = false

@@ -10,7 +10,7 @@ use crate::status::Status;
 use std::alloc::Global;
 use sv_base::{Failed, Sink, put_all};
 use sv_core::has_start;
-use sv_recorder::Journal;
+use sv_journal::Journal;
 
 /// Writes the line of a recording and its bytes.
 fn put_recording<K: Sink>(out: &mut K, bytes: &[u8]) -> Result<(), Failed>
@@ -44,14 +44,10 @@ pub fn record_text<K: Sink>(
     let Simulation { load, run } = match simulated(alloc, text) {
         Ok(made) => made,
         Err(Unsimulated::Line { line, reason }) => return Status::Workload { line, reason },
-        Err(Unsimulated::Unbuilt) => {
-            let place = text.len() as u64;
-            return Status::Unbuilt { place };
-        }
         Err(Unsimulated::NoMemory) => return Status::NoMemory,
     };
     *journal = run.journal;
-    let Ok(()) = put_recording(out, run.up.bytes()) else {
+    let Ok(()) = put_recording(out, &run.bytes) else {
         return Status::WriteFault;
     };
     if !has_start(&load, journal.items()) {

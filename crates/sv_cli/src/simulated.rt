@@ -1,22 +1,20 @@
 //! The simulation of the workload that a text says.
 ghost use Rattle.std.specs.Prelude.{◌≡◌, ◌≤◌, ◌^◌, length, IfOk, IfErr};
-ghost use Rattle.sv_recorder.specs.Stream.{stream_of};
+ghost use Rattle.sv_journal.specs.Stream.{stream_of};
 ghost use Rattle.sv_cli.specs.Recorded.{IsRun, IsUnsimulated};
 
 use std::alloc::Global;
-use sv_core::{is_built, simulate};
-use sv_recorder::Finished;
-use sv_ring::PlainRing;
+use sv_core::{Simulated, simulate};
 use sv_workload::{WorkFault, Workload, parse};
 
 /// The most bytes of a workload.
 pub const MOST_BYTES: u64 = 1 << 26;
 
-/// A workload, and what is left of its simulation: the journal, and the ring with the bytes sent.
+/// A workload and its simulation: the journal, and the bytes sent.
 #[derive(Drop)]
 pub struct Simulation {
     pub load: Workload,
-    pub run: Finished<PlainRing>,
+    pub run: Simulated,
 }
 
 /// Why a text has no simulation.
@@ -24,8 +22,6 @@ pub struct Simulation {
 pub enum Unsimulated {
     /// This line, counted from 1, is the first with a fault, for the reason of this number.
     Line { line: u32, reason: u8 },
-    /// What it asks for is not built yet.
-    Unbuilt,
     /// Memory was not to be had.
     NoMemory,
 }
@@ -34,7 +30,7 @@ pub enum Unsimulated {
 pub fn simulated(alloc: Global, text: &[u8]) -> Result<Simulation, Unsimulated>
     requires { length text.now ≤ 2 ^ 26 }
     ensures run { IfOk result (λ s. IsRun text.now s.load s.run.journal.items) }
-    ensures sent { IfOk result (λ s. s.run.up.sent ≡ stream_of s.load s.run.journal.items) }
+    ensures sent { IfOk result (λ s. s.run.bytes.items ≡ stream_of s.load s.run.journal.items) }
     ensures none { IfErr result (IsUnsimulated text.now) }
 {
     let load = match parse(alloc, text) {
@@ -42,9 +38,6 @@ pub fn simulated(alloc: Global, text: &[u8]) -> Result<Simulation, Unsimulated>
         Err(WorkFault::Line { line, reason }) => return Err(Unsimulated::Line { line, reason }),
         Err(WorkFault::NoMemory) => return Err(Unsimulated::NoMemory),
     };
-    if !is_built(&load) {
-        return Err(Unsimulated::Unbuilt);
-    }
     match simulate(alloc, &load) {
         Ok(run) => Ok(Simulation { load, run }),
         Err(_) => Err(Unsimulated::NoMemory),

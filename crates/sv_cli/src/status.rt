@@ -35,9 +35,6 @@ pub enum Status {
     TooLong { limit: u64 },
     /// Memory was not to be had.
     NoMemory,
-    /// The workload is of a kind that is not built yet. `place` is the offset, in bytes, of the end
-    /// of its text, all of which is read.
-    Unbuilt { place: u64 },
 }
 
 impl Status {
@@ -59,7 +56,6 @@ impl Status {
             Status::Workload { .. } => 8,
             Status::TooLong { .. } => 9,
             Status::NoMemory => 10,
-            Status::Unbuilt { .. } => 11,
         }
     }
 }
@@ -114,7 +110,6 @@ fn line_of(status: &Status) -> Line
         Status::Workload { line, reason } => reasoned("workload line ", u64::from(*line), *reason),
         Status::TooLong { limit } => numbered("longer than ", *limit),
         Status::NoMemory => words("no memory\n"),
-        Status::Unbuilt { place } => numbered("not built at ", *place),
     }
 }
 

@@ -2,7 +2,7 @@ use super::*;
 use std::alloc::Global;
 use std::test::*;
 use sv_base::{MemSink, MemSource};
-use sv_recorder::{Item, Journal, Kind, Origin, Outcome};
+use sv_journal::{Item, Journal, Kind, Origin, Outcome};
 
 /// What a run answered, what its two sinks have, and its journal.
 #[derive(Drop)]
@@ -250,7 +250,6 @@ fn words_and_codes(rt: HostRuntime) -> Result<(), Fail> {
             "workload line 1 reason 3\n",
         ),
         (Status::NoMemory, 10, "no memory\n"),
-        (Status::Unbuilt { place: 12 }, 11, "not built at 12\n"),
     ] {
         let mut err = sink(alloc, &[])?;
         say(&mut err, &status);
@@ -386,38 +385,7 @@ fn workloads_without_a_recording(rt: HostRuntime) -> Result<(), Fail> {
             "",
             "workload line 3 reason 3\n",
         ),
-        // What is of the language and not built is told at the end of the text.
-        ("", Status::Unbuilt { place: 0 }, "", "not built at 0\n"),
-        (
-            "ring 64\nwriter\n",
-            Status::Unbuilt { place: 15 },
-            "",
-            "not built at 15\n",
-        ),
-        (
-            "ring 1023\nwriter\n",
-            Status::Unbuilt { place: 17 },
-            "",
-            "not built at 17\n",
-        ),
-        (
-            "task 536870916 1 2 3 4 Main\nwriter\n",
-            Status::Unbuilt { place: 35 },
-            "",
-            "not built at 35\n",
-        ),
-        (
-            "writer\nwriter\n",
-            Status::Unbuilt { place: 14 },
-            "",
-            "not built at 14\n",
-        ),
-        (
-            "writer\nschedule\n",
-            Status::Unbuilt { place: 16 },
-            "",
-            "not built at 16\n",
-        ),
+        ("", Status::NoSync, "; sysview recording\n", "no sync\n"),
         (
             "writer\n",
             Status::NoSync,

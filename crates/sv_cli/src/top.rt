@@ -15,7 +15,7 @@ use crate::scan::scan_file;
 use crate::status::{Status, say};
 use std::alloc::Global;
 use sv_base::{Sink, Source};
-use sv_recorder::Journal;
+use sv_journal::Journal;
 
 /// Does the command, and says how it ended.
 fn answer<S: Source, K: Sink>(

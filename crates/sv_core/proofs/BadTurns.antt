@@ -9,17 +9,15 @@ use Rattle.std.proofs.lemmas.Option.{slice_get_within}
 use Rattle.std.proofs.lemmas.Bool.{true≢false}
 use Rattle.sv_workload.specs.declared.load.Command.{Command as Asked}
 use Rattle.sv_workload.specs.Load.{Load, script_of}
-use Rattle.sv_recorder.specs.declared.journal.Origin.{Origin}
-use Rattle.sv_recorder.specs.declared.journal.Item.{Item}
-use Rattle.sv_recorder.specs.Items.{latest_first, is_call_of, is_overflow, is_written}
-use Rattle.sv_recorder.specs.Items.{is_after_overflow, before_overflow, stored_before}
-use Rattle.sv_recorder.specs.Legal.{IsLegal, IsNextItem, EachItem, AreFirstCommands, origins_of}
-use Rattle.sv_recorder.specs.Legal.{group_of}
-use Rattle.sv_recorder.proofs.Shared.{calls_within}
+use Rattle.sv_journal.specs.declared.journal.Origin.{Origin}
+use Rattle.sv_journal.specs.declared.journal.Item.{Item}
+use Rattle.sv_journal.specs.Items.{latest_first, is_call_of, is_overflow, is_written}
+use Rattle.sv_journal.specs.Items.{is_after_overflow, before_overflow, stored_before}
+use Rattle.sv_journal.specs.Legal.{IsLegal, IsNextItem, EachItem, AreFirstCommands, origins_of}
+use Rattle.sv_journal.specs.Legal.{group_of}
+use Rattle.sv_journal.proofs.Shared.{calls_within}
 use Rattle.sv_core.specs.Turns.{StepTurn, Turns, IsReplayed, IsSettled, step_turns, written_freed}
 use Rattle.sv_core.specs.Turns.{frees_before}
-use Rattle.sv_core.proofs.WriterOrder.{count-cons}
-use Rattle.sv_core.proofs.OneWriter.{alone, origins_of-append, origins_of-cons, each-front}
 use Rattle.sv_core.proofs.Heads.{next_call, first_head, heads_by}
 use Rattle.sv_core.proofs.OriginsOfTurns.{origins-before_overflow}
 use Rattle.sv_core.specs.BadTurns.{IsRun, IsReplayedTo, IsAmiss, FallsShort, IsFault, No_step}
@@ -29,6 +27,8 @@ use Rattle.sv_core.proofs.ItemFacts.{overflow_written}
 use Rattle.sv_core.proofs.OneReplay.{IsFront, IsBehind, behind, same_earlier, same_fronts}
 use Rattle.sv_core.proofs.OneReplay.{used_before, origins_told, whole_front, once}
 use Rattle.sv_core.proofs.TurnCounts.{count-reverse, count-append, calls_turned, commands_turned}
+use Rattle.sv_core.proofs.Counts.{count-cons}
+use Rattle.sv_core.proofs.JournalParts.{alone, origins_of-append, origins_of-cons, each-front}
 
 -- FRONTS
 

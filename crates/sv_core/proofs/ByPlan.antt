@@ -5,10 +5,10 @@ use Rattle.std.proofs.Common.{rules, append_assoc, append-nil}
 use Rattle.std.specs.Prelude.{nat_lt}
 use Rattle.sv_ring.specs.Ring.{Way, Plan, way_after, first_of, Moves}
 use Rattle.sv_workload.specs.Load.{Load}
-use Rattle.sv_recorder.specs.declared.journal.Item.{Item}
-use Rattle.sv_recorder.specs.Items.{is_stored, is_written, block_of, stream_before, stored_before}
-use Rattle.sv_recorder.specs.Items.{room_at}
-use Rattle.sv_recorder.specs.Legal.{EachItem}
+use Rattle.sv_journal.specs.declared.journal.Item.{Item}
+use Rattle.sv_journal.specs.Items.{is_stored, is_written, block_of, stream_before, stored_before}
+use Rattle.sv_journal.specs.Items.{room_at}
+use Rattle.sv_journal.specs.Legal.{EachItem}
 use Rattle.sv_recorder.specs.Freed.{IsFreed, AreFreed, wrote_if, way_left}
 use Rattle.sv_core.specs.Turns.{IsSettled, written_freed, frees_before}
 use Rattle.sv_core.proofs.Heads.{reverse_moved}

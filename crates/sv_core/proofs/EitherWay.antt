@@ -8,9 +8,9 @@ use Rattle.std.proofs.lemmas.Bool.{true≢false}
 use Rattle.sv_ring.specs.Ring.{Plan}
 use Rattle.sv_workload.specs.declared.load.Command.{Command as Asked}
 use Rattle.sv_workload.specs.Load.{Load, script_of}
-use Rattle.sv_recorder.specs.declared.journal.Item.{Item}
-use Rattle.sv_recorder.specs.Items.{latest_first, is_call_of}
-use Rattle.sv_recorder.specs.Legal.{commands_in}
+use Rattle.sv_journal.specs.declared.journal.Item.{Item}
+use Rattle.sv_journal.specs.Items.{latest_first, is_call_of}
+use Rattle.sv_journal.specs.Legal.{commands_in}
 use Rattle.sv_core.specs.Turns.{StepTurn, Turns, IsReplayed}
 use Rattle.sv_core.specs.BadTurns.{IsReplayedTo, FallsShort, IsFault, No_step, No_command, No_frees}
 use Rattle.sv_core.specs.BadTurns.{Left_over, Faulty, IsBadTurns, AreAskable}

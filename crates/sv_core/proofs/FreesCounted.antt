@@ -6,10 +6,10 @@ use Rattle.std.specs.Prelude.{slice_index_or}
 use Rattle.std.proofs.lemmas.Option.{slice_get-get_or}
 use Rattle.std.proofs.lemmas.List.{take-append-drop, append_cancel_left, take_all}
 use Rattle.std.proofs.Math.Seq.{take-append_seam}
-use Rattle.sv_recorder.specs.declared.journal.Item.{Item}
-use Rattle.sv_recorder.specs.Items.{latest_first, is_written, is_overflow, is_refused}
-use Rattle.sv_recorder.specs.Items.{is_after_refused_overflow}
-use Rattle.sv_recorder.proofs.Shared.{latest_first-push}
+use Rattle.sv_journal.specs.declared.journal.Item.{Item}
+use Rattle.sv_journal.specs.Items.{latest_first, is_written, is_overflow, is_refused}
+use Rattle.sv_journal.specs.Items.{is_after_refused_overflow}
+use Rattle.sv_journal.proofs.Shared.{latest_first-push}
 use Rattle.sv_core.specs.Turns.{written_freed, frees_before}
 use Rattle.sv_core.specs.Used.{IsCounted, IsUsing, IsUsingOthers}
 use Rattle.sv_core.proofs.BadTurns.{take_one}

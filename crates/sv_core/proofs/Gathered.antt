@@ -5,16 +5,16 @@ use Rattle.std.proofs.Common.{refl, sym, ap, ◌∙◌, subst, arith}
 use Rattle.std.specs.Prelude.{reverse, slice_index_or}
 use Rattle.std.proofs.lemmas.Option.{slice_get-get_or}
 use Rattle.std.proofs.lemmas.List.{reverse-append, take-append-drop}
-use Rattle.sv_recorder.specs.declared.journal.Item.{Item}
-use Rattle.sv_recorder.specs.Items.{latest_first, is_written, is_overflow, is_refused}
-use Rattle.sv_recorder.specs.Items.{is_after_refused_overflow}
-use Rattle.sv_recorder.specs.Legal.{EachItem}
-use Rattle.sv_recorder.proofs.Shared.{latest_first-push}
+use Rattle.sv_journal.specs.declared.journal.Item.{Item}
+use Rattle.sv_journal.specs.Items.{latest_first, is_written, is_overflow, is_refused}
+use Rattle.sv_journal.specs.Items.{is_after_refused_overflow}
+use Rattle.sv_journal.specs.Legal.{EachItem}
+use Rattle.sv_journal.proofs.Shared.{latest_first-push}
 use Rattle.sv_core.specs.Turns.{StepTurn, step_turns, written_freed, frees_before}
-use Rattle.sv_core.proofs.OneWriter.{each-front}
 use Rattle.sv_core.specs.Turned.{asked_last, turns_with, RisesLittle}
 use Rattle.sv_core.proofs.BadTurns.{take_one}
 use Rattle.sv_core.proofs.TurnsPushed.{turns_push, frees_push, freed_push}
+use Rattle.sv_core.proofs.JournalParts.{each-front}
 
 -- the last of these
 asked_push : (ts : List StepTurn) (t : StepTurn) →

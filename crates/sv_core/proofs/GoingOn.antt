@@ -7,27 +7,27 @@ use Rattle.std.proofs.lemmas.List.{reverse-append}
 use Rattle.std.proofs.lemmas.Bool.{true≢false}
 use Rattle.sv_ring.specs.Ring.{Way, Plan, first_of}
 use Rattle.sv_workload.specs.Load.{Load}
-use Rattle.sv_recorder.specs.declared.journal.Origin.{Origin}
-use Rattle.sv_recorder.specs.declared.journal.Origin.TheVariants.{Call, Sync, Reply, Overflow}
-use Rattle.sv_recorder.specs.declared.journal.Origin.TheVariants.{Command}
-use Rattle.sv_recorder.specs.declared.journal.Outcome.{Outcome}
-use Rattle.sv_recorder.specs.declared.journal.Outcome.TheVariants.{Handled}
-use Rattle.sv_recorder.specs.declared.journal.Item.{Item}
-use Rattle.sv_recorder.specs.Items.{is_call_of, is_overflow, is_on, is_written, pending_at}
-use Rattle.sv_recorder.specs.Items.{is_after_overflow, stored_before}
-use Rattle.sv_recorder.specs.Legal.{IsNextItem, IsCommandInPlace, IsNextStep, EachItem}
-use Rattle.sv_recorder.specs.Legal.{owes_overflow, outcome_at, freed_before, origins_of, ticks_of}
+use Rattle.sv_journal.specs.declared.journal.Origin.{Origin}
+use Rattle.sv_journal.specs.declared.journal.Origin.TheVariants.{Call, Sync, Reply, Overflow}
+use Rattle.sv_journal.specs.declared.journal.Origin.TheVariants.{Command}
+use Rattle.sv_journal.specs.declared.journal.Outcome.{Outcome}
+use Rattle.sv_journal.specs.declared.journal.Outcome.TheVariants.{Handled}
+use Rattle.sv_journal.specs.declared.journal.Item.{Item}
+use Rattle.sv_journal.specs.Items.{is_call_of, is_overflow, is_on, is_written, pending_at}
+use Rattle.sv_journal.specs.Items.{is_after_overflow, stored_before}
+use Rattle.sv_journal.specs.Legal.{IsNextItem, IsCommandInPlace, IsNextStep, EachItem}
+use Rattle.sv_journal.specs.Legal.{owes_overflow, outcome_at, freed_before, origins_of, ticks_of}
 use Rattle.sv_recorder.specs.Freed.{IsFreed, AreFreed, way_left}
 use Rattle.sv_recorder.specs.Writes.{made}
-use Rattle.sv_recorder.proofs.Shared.{Stands, next-plain, next-overflow, next-after}
-use Rattle.sv_recorder.proofs.Shared.{after_refused-fresh}
-use Rattle.sv_recorder.proofs.Shared.{outcome_at-write, stored_before-le}
-use Rattle.sv_core.proofs.WriterOrder.{count-not}
-use Rattle.sv_core.proofs.OneWriter.{origins_of-append}
+use Rattle.sv_journal.proofs.Shared.{Stands, next-plain, next-overflow, next-after}
+use Rattle.sv_journal.proofs.Shared.{after_refused-fresh}
+use Rattle.sv_journal.proofs.Shared.{outcome_at-write, stored_before-le}
 use Rattle.sv_core.proofs.Heads.{reverse_moved}
 use Rattle.sv_core.proofs.ItemFacts.{forms_packet, packet_is, writes, written_is, ticks_in}
 use Rattle.sv_core.proofs.ItemFacts.{ticks-cons}
 use Rattle.sv_core.proofs.NoHeads.{AreAnswers, is_answer}
+use Rattle.sv_core.proofs.Counts.{count-not}
+use Rattle.sv_core.proofs.JournalParts.{origins_of-append}
 
 -- ONE ITEM BY A PLAN
 

@@ -8,17 +8,17 @@ use Rattle.std.proofs.lemmas.List.Sums.{take_while-cons}
 use Rattle.std.proofs.lemmas.Bool.{true≢false}
 use Rattle.sv_workload.specs.declared.load.Command.{Command as Asked}
 use Rattle.sv_workload.specs.Load.{Load}
-use Rattle.sv_recorder.specs.declared.journal.Origin.{Origin}
-use Rattle.sv_recorder.specs.declared.journal.Origin.TheVariants.{Call, Sync, Reply, Overflow}
-use Rattle.sv_recorder.specs.declared.journal.Origin.TheVariants.{Command}
-use Rattle.sv_recorder.specs.declared.journal.Item.{Item}
-use Rattle.sv_recorder.specs.Items.{is_call, is_call_of, is_command, is_overflow}
-use Rattle.sv_recorder.specs.Legal.{IsNextItem, IsNextStep, IsCommandInPlace, EachItem}
-use Rattle.sv_recorder.specs.Legal.{is_after_call_group, is_head, origins_of, command_in}
-use Rattle.sv_recorder.specs.Legal.{commands_in}
+use Rattle.sv_journal.specs.declared.journal.Origin.{Origin}
+use Rattle.sv_journal.specs.declared.journal.Origin.TheVariants.{Call, Sync, Reply, Overflow}
+use Rattle.sv_journal.specs.declared.journal.Origin.TheVariants.{Command}
+use Rattle.sv_journal.specs.declared.journal.Item.{Item}
+use Rattle.sv_journal.specs.Items.{is_call, is_call_of, is_command, is_overflow}
+use Rattle.sv_journal.specs.Legal.{IsNextItem, IsNextStep, IsCommandInPlace, EachItem}
+use Rattle.sv_journal.specs.Legal.{is_after_call_group, is_head, origins_of, command_in}
+use Rattle.sv_journal.specs.Legal.{commands_in}
 use Rattle.sv_core.specs.Turns.{StepTurn, has_command, turn_at, step_turns}
-use Rattle.sv_core.proofs.WriterOrder.{count-cons, count-not}
-use Rattle.sv_core.proofs.OneWriter.{each-front}
+use Rattle.sv_core.proofs.Counts.{count-cons, count-not}
+use Rattle.sv_core.proofs.JournalParts.{each-front}
 
 -- what holds of each item from here on; `earlier` is the items before, the latest first
 abbrev pub EachLater : (List Item → Item → Type 0) → List Item → List Item → Type 0

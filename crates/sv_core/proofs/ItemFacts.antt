@@ -4,20 +4,20 @@ use Rattle.std.proofs.Common.{[], ◌∷◌, ◌++◌, length, refl, sym, ap, �
 use Rattle.std.specs.Prelude.{sum_by, nat_lt}
 use Rattle.std.proofs.lemmas.List.Sums.{sum_by-cons}
 use Rattle.sv_workload.specs.Load.{Load}
-use Rattle.sv_recorder.specs.declared.journal.Origin.{Origin}
-use Rattle.sv_recorder.specs.declared.journal.Origin.TheVariants.{Call, Sync, Reply, Overflow}
-use Rattle.sv_recorder.specs.declared.journal.Origin.TheVariants.{Command}
-use Rattle.sv_recorder.specs.declared.journal.Outcome.TheVariants.{Stored, Refused, Ignored}
-use Rattle.sv_recorder.specs.declared.journal.Outcome.TheVariants.{Handled}
-use Rattle.sv_recorder.specs.declared.journal.Item.{Item}
-use Rattle.sv_recorder.specs.Items.{is_sync, is_overflow, is_stored, is_refused, is_packet}
-use Rattle.sv_recorder.specs.Items.{holds_packet, is_on, is_written, pending_at, is_after_overflow}
-use Rattle.sv_recorder.specs.Items.{is_after_refused_overflow, before_overflow, room_at, block_of}
-use Rattle.sv_recorder.specs.Legal.{IsNextItem, IsMoment, IsCount, EachItem, ticks_of, is_control}
-use Rattle.sv_recorder.specs.Legal.{outcome_at, freed_before}
+use Rattle.sv_journal.specs.declared.journal.Origin.{Origin}
+use Rattle.sv_journal.specs.declared.journal.Origin.TheVariants.{Call, Sync, Reply, Overflow}
+use Rattle.sv_journal.specs.declared.journal.Origin.TheVariants.{Command}
+use Rattle.sv_journal.specs.declared.journal.Outcome.TheVariants.{Stored, Refused, Ignored}
+use Rattle.sv_journal.specs.declared.journal.Outcome.TheVariants.{Handled}
+use Rattle.sv_journal.specs.declared.journal.Item.{Item}
+use Rattle.sv_journal.specs.Items.{is_sync, is_overflow, is_stored, is_refused, is_packet}
+use Rattle.sv_journal.specs.Items.{holds_packet, is_on, is_written, pending_at, is_after_overflow}
+use Rattle.sv_journal.specs.Items.{is_after_refused_overflow, before_overflow, room_at, block_of}
+use Rattle.sv_journal.specs.Legal.{IsNextItem, IsMoment, IsCount, EachItem, ticks_of, is_control}
+use Rattle.sv_journal.specs.Legal.{outcome_at, freed_before}
 use Rattle.sv_recorder.specs.Writes.{made}
 use Rattle.sv_core.specs.Turns.{written_freed, frees_before}
-use Rattle.sv_core.proofs.LatestSection.{no_packet}
+use Rattle.sv_core.proofs.JournalParts.{no_packet}
 
 -- no overflow stands directly before an overflow
 pub no_overflow : (load : Load) (earlier : List Item) (o : Item) → is_overflow o.origin ≡ true →

@@ -1,15 +1,11 @@
 pub mod examples
+pub mod Counts
+pub mod JournalParts
 pub mod Sections
-pub mod WriterOrder
-pub mod LatestSection
-pub mod OneWriter
 pub mod Heads
 pub mod TurnsOfOrder
 pub mod OriginsOfTurns
 pub mod OneJournal
-pub mod Runnable
-pub mod Loop
-pub mod Shared
 pub mod ItemFacts
 pub mod TurnsPushed
 pub mod NoHeads
@@ -25,3 +21,8 @@ pub mod Rising
 pub mod Gathered
 pub mod FreesCounted
 pub mod TurnsTaken
+pub mod SectionParts
+pub mod SectionMore
+pub mod OrderParts
+pub mod Rounds
+pub mod Playing

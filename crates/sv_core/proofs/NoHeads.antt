@@ -5,14 +5,14 @@ use Rattle.std.specs.Prelude.{flat_map, nat_lt, ◌==◌, ◌&&◌, length}
 use Rattle.std.specs.List.{enumerate_from}
 use Rattle.std.proofs.lemmas.List.Concat.{flat_map-cons}
 use Rattle.sv_workload.specs.Load.{Load}
-use Rattle.sv_recorder.specs.declared.journal.Kind.{Kind}
-use Rattle.sv_recorder.specs.declared.journal.Kind.TheVariants as kinds
-use Rattle.sv_recorder.specs.declared.journal.Origin.{Origin}
-use Rattle.sv_recorder.specs.declared.journal.Origin.TheVariants.{Call, Sync, Reply, Overflow}
-use Rattle.sv_recorder.specs.declared.journal.Origin.TheVariants.{Command}
-use Rattle.sv_recorder.specs.Items.{is_start, is_stop, is_overflow}
-use Rattle.sv_recorder.specs.Legal.{replies_for, single, task_replies, init_replies, start_answers}
-use Rattle.sv_recorder.specs.Legal.{command_answers, other_answers, answers_of, is_head, command_in}
+use Rattle.sv_journal.specs.declared.journal.Kind.{Kind}
+use Rattle.sv_journal.specs.declared.journal.Kind.TheVariants as kinds
+use Rattle.sv_journal.specs.declared.journal.Origin.{Origin}
+use Rattle.sv_journal.specs.declared.journal.Origin.TheVariants.{Call, Sync, Reply, Overflow}
+use Rattle.sv_journal.specs.declared.journal.Origin.TheVariants.{Command}
+use Rattle.sv_journal.specs.Items.{is_start, is_stop, is_overflow}
+use Rattle.sv_journal.specs.Legal.{replies_for, single, task_replies, init_replies, start_answers}
+use Rattle.sv_journal.specs.Legal.{command_answers, other_answers, answers_of, is_head, command_in}
 use Rattle.sv_core.proofs.Settling.{told_command, told_turns}
 
 abbrev pub is_answer : Origin → Bool

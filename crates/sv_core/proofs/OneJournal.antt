@@ -6,32 +6,31 @@ use Rattle.std.specs.Prelude.{count_by, sum_by, nat_lt}
 use Rattle.std.proofs.lemmas.List.{reverse-reverse}
 use Rattle.std.proofs.lemmas.List.Sums.{sum_by-cons}
 use Rattle.sv_workload.specs.Load.{Load}
-use Rattle.sv_recorder.specs.declared.journal.Origin.{Origin}
-use Rattle.sv_recorder.specs.declared.journal.Origin.TheVariants.{Call, Sync, Reply, Overflow}
-use Rattle.sv_recorder.specs.declared.journal.Origin.TheVariants.{Command}
-use Rattle.sv_recorder.specs.declared.journal.Outcome.TheVariants.{Stored, Refused, Ignored}
-use Rattle.sv_recorder.specs.declared.journal.Outcome.TheVariants.{Handled}
-use Rattle.sv_recorder.specs.declared.journal.Item.{Item}
-use Rattle.sv_recorder.specs.Items.{latest_first, is_call, is_overflow, is_packet, holds_packet}
-use Rattle.sv_recorder.specs.Items.{is_on, pending_at, is_after_overflow, is_after_refused_overflow}
-use Rattle.sv_recorder.specs.Items.{before_overflow, stored_before, room_at, block_of}
-use Rattle.sv_recorder.specs.Legal.{IsLegal, IsNextItem, IsMoment, IsCount, EachItem}
-use Rattle.sv_recorder.specs.Legal.{AreFirstCommands, group_of, origins_of, ticks_of, is_control}
-use Rattle.sv_recorder.specs.Legal.{outcome_at}
+use Rattle.sv_journal.specs.declared.journal.Origin.{Origin}
+use Rattle.sv_journal.specs.declared.journal.Origin.TheVariants.{Call, Sync, Reply, Overflow}
+use Rattle.sv_journal.specs.declared.journal.Origin.TheVariants.{Command}
+use Rattle.sv_journal.specs.declared.journal.Outcome.TheVariants.{Stored, Refused, Ignored}
+use Rattle.sv_journal.specs.declared.journal.Outcome.TheVariants.{Handled}
+use Rattle.sv_journal.specs.declared.journal.Item.{Item}
+use Rattle.sv_journal.specs.Items.{latest_first, is_call, is_overflow, is_packet, holds_packet}
+use Rattle.sv_journal.specs.Items.{is_on, pending_at, is_after_overflow, is_after_refused_overflow}
+use Rattle.sv_journal.specs.Items.{before_overflow, stored_before, room_at, block_of}
+use Rattle.sv_journal.specs.Legal.{IsLegal, IsNextItem, IsMoment, IsCount, EachItem}
+use Rattle.sv_journal.specs.Legal.{AreFirstCommands, group_of, origins_of, ticks_of, is_control}
+use Rattle.sv_journal.specs.Legal.{outcome_at}
 use Rattle.sv_recorder.specs.Writes.{made}
 use Rattle.sv_core.specs.Order.{Turn, Takes_step, Reads, Reads_all, Sends, is_step, order_of}
 use Rattle.sv_core.specs.Turns.{step_turns}
 use Rattle.sv_core.specs.Simulated.{IsSimulated, IsInOrder, IsTakenItem, IsTaken, before_number}
 use Rattle.sv_core.specs.Simulated.{before_section, before_step, stored_by, taken_in}
 use Rattle.sv_core.proofs.Sections.{before_number-append}
-use Rattle.sv_core.proofs.WriterOrder.{count-cons, count-not, before_number-all, before_number-more}
-use Rattle.sv_core.proofs.LatestSection.{calls_in, calls-cons, no_packet}
-use Rattle.sv_core.proofs.OneWriter.{alone, origins_of-cons}
 use Rattle.sv_core.proofs.Heads.{heads_by}
 use Rattle.sv_core.proofs.TurnsOfOrder.{same_turns}
 use Rattle.sv_core.proofs.OriginsOfTurns.{IsLastCall, last_call-tail, last_call-some, first_call}
 use Rattle.sv_core.proofs.OriginsOfTurns.{origins_by, origins_of-reverse, not_call, calls-origins}
 use Rattle.sv_core.proofs.OriginsOfTurns.{origins-before_overflow}
+use Rattle.sv_core.proofs.Counts.{count-cons, count-not, before_number-all, before_number-more, before_number-le, calls_in, calls-cons}
+use Rattle.sv_core.proofs.JournalParts.{no_packet, alone, origins_of-cons}
 
 -- THE FRONT OF A JOURNAL
 
@@ -97,7 +96,7 @@ front_none (i ∷ earlier) ends none =
 -- WHAT THE HOST TOOK
 
 -- an overflow directly before is no call
-calls-before_overflow : (earlier : List Item)
+pub calls-before_overflow : (earlier : List Item)
     → calls_in (before_overflow earlier) ≡ calls_in earlier
 calls-before_overflow [] = refl
 calls-before_overflow (o ∷ earlier) = at (is_overflow o.origin) refl where
@@ -150,7 +149,7 @@ section_of items later earlier i number whole ends below =
     ∙ section_before number earlier ends)
 
 -- two journals of which the host took the same sections
-same_taken : (load : Load) (a b : List Item) (turns : List Turn)
+pub same_taken : (load : Load) (a b : List Item) (turns : List Turn)
     → ((number : ℕ) → number ≤ count_by is_step turns → stored_by load a number ≡ stored_by load b
     number)
     → taken_in load a turns ≡ taken_in load b turns
@@ -178,22 +177,10 @@ same_taken load a b (Sends ∷ earlier) same =
       more : {number all few : ℕ} → all ≡ 0 + few → number ≤ few → number ≤ all
       more e h = omega arith
 
--- at most so many pass before the one with this number
-before_number-le : {X : Type 0} (p : X → Bool) (number : ℕ) (xs : List X)
-    → count_by p (before_number p number xs) ≤ number
-before_number-le p number [] = omega arith
-before_number-le p number (x ∷ xs) =
-    at (nat_lt number (count_by p (x ∷ xs))) refl (before_number-le p number xs) where
-      at : (b : Bool) → nat_lt number (count_by p (x ∷ xs)) ≡ b →
-          count_by p (before_number p number xs)
-          ≤ number → count_by p (cond b (before_number p number xs) (x ∷ xs)) ≤ number
-      at true e earlier = earlier
-      at false e earlier = search (rules, e)
-
 -- AN ITEM MORE
 
 -- the freed of an item that is no overflow
-taken_is : (load : Load) (turns : List Turn) (items earlier : List Item) (i : Item) (o : Origin)
+pub taken_is : (load : Load) (turns : List Turn) (items earlier : List Item) (i : Item) (o : Origin)
     → is_overflow o ≡ false → IsTaken load turns items earlier i o
     → i.freed ≡ taken_in load items (before_step turns (calls_in (i ∷ earlier) - 1))
 taken_is load turns items earlier i (Call writer step) other h = h

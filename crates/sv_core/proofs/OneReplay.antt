@@ -4,20 +4,20 @@ use Rattle.std.proofs.Common.{◌∷◌, ◌++◌, refl, sym, ap, ◌∙◌, sub
 use Rattle.std.specs.Prelude.{nat_lt, reverse, flat_map}
 use Rattle.std.proofs.lemmas.List.{append_cancel_left, reverse-reverse}
 use Rattle.sv_workload.specs.Load.{Load}
-use Rattle.sv_recorder.specs.declared.journal.Origin.{Origin}
-use Rattle.sv_recorder.specs.declared.journal.Item.{Item}
-use Rattle.sv_recorder.specs.Items.{latest_first, is_overflow, is_packet, is_on, is_written}
-use Rattle.sv_recorder.specs.Items.{pending_at, is_after_overflow, before_overflow}
-use Rattle.sv_recorder.specs.Legal.{IsLegal, IsNextItem, EachItem, AreFirstCommands, origins_of}
-use Rattle.sv_recorder.specs.Legal.{group_of, ticks_of}
+use Rattle.sv_journal.specs.declared.journal.Origin.{Origin}
+use Rattle.sv_journal.specs.declared.journal.Item.{Item}
+use Rattle.sv_journal.specs.Items.{latest_first, is_overflow, is_packet, is_on, is_written}
+use Rattle.sv_journal.specs.Items.{pending_at, is_after_overflow, before_overflow}
+use Rattle.sv_journal.specs.Legal.{IsLegal, IsNextItem, EachItem, AreFirstCommands, origins_of}
+use Rattle.sv_journal.specs.Legal.{group_of, ticks_of}
 use Rattle.sv_core.specs.Turns.{StepTurn, Turns, IsReplayed, IsSettled, step_turns, written_freed}
 use Rattle.sv_core.specs.Turns.{frees_before}
-use Rattle.sv_core.proofs.OneWriter.{alone, origins_of-cons}
 use Rattle.sv_core.proofs.Heads.{heads_by}
 use Rattle.sv_core.proofs.OriginsOfTurns.{origins_by, origins_of-reverse, origins-before_overflow}
 use Rattle.sv_core.proofs.ItemFacts.{no_overflow, moment_is, ticks_in, ticks-cons}
 use Rattle.sv_core.proofs.ItemFacts.{ticks-before_overflow, forms_packet, packet_is, same_next}
 use Rattle.sv_core.proofs.ItemFacts.{overflow_is, writes, written_is, freed_rises, frees-written}
+use Rattle.sv_core.proofs.JournalParts.{alone, origins_of-cons}
 
 -- the front of a settled journal, the latest first, up to an item that is no overflow; it uses the
 -- first of these frees

@@ -7,16 +7,15 @@ use Rattle.std.proofs.lemmas.List.{reverse-append, take-append-drop}
 use Rattle.std.proofs.lemmas.Bool.{or_parts}
 use Rattle.sv_workload.specs.declared.load.Command.{Command as Asked}
 use Rattle.sv_workload.specs.Load.{Load}
-use Rattle.sv_recorder.specs.declared.journal.Origin.{Origin}
-use Rattle.sv_recorder.specs.declared.journal.Item.{Item}
-use Rattle.sv_recorder.specs.Items.{latest_first, is_call, is_command, is_overflow, before_overflow}
-use Rattle.sv_recorder.specs.Legal.{IsNextItem, EachItem, AreFirstCommands, is_head, group_of}
-use Rattle.sv_recorder.specs.Legal.{origins_of, commands_in}
+use Rattle.sv_journal.specs.declared.journal.Origin.{Origin}
+use Rattle.sv_journal.specs.declared.journal.Item.{Item}
+use Rattle.sv_journal.specs.Items.{latest_first, is_call, is_command, is_overflow, before_overflow}
+use Rattle.sv_journal.specs.Legal.{IsNextItem, EachItem, AreFirstCommands, is_head, group_of}
+use Rattle.sv_journal.specs.Legal.{origins_of, commands_in}
 use Rattle.sv_core.specs.Turns.{StepTurn, step_turns}
-use Rattle.sv_core.proofs.WriterOrder.{count-cons}
-use Rattle.sv_core.proofs.LatestSection.{calls_in, calls-cons, not_head}
-use Rattle.sv_core.proofs.OneWriter.{origins_of-append}
 use Rattle.sv_core.proofs.Heads.{each_later, next_call, heads_by, heads_all}
+use Rattle.sv_core.proofs.Counts.{count-cons, calls_in, calls-cons}
+use Rattle.sv_core.proofs.JournalParts.{not_head, origins_of-append}
 
 -- THE ORIGINS
 

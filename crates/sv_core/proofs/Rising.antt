@@ -6,16 +6,16 @@ use Rattle.std.specs.Prelude.{nat_lt, ◌==◌}
 use Rattle.std.proofs.lemmas.Bool.{true≢false}
 use Rattle.std.proofs.lemmas.List.Elements.{All-nil, All-cons, All-append}
 use Rattle.sv_workload.specs.Load.{Load}
-use Rattle.sv_recorder.specs.declared.journal.Origin.{Origin}
-use Rattle.sv_recorder.specs.declared.journal.Origin.TheVariants.{Call, Sync, Reply, Overflow}
-use Rattle.sv_recorder.specs.declared.journal.Origin.TheVariants.{Command}
-use Rattle.sv_recorder.specs.declared.journal.Outcome.TheVariants.{Stored, Refused, Ignored}
-use Rattle.sv_recorder.specs.declared.journal.Outcome.TheVariants.{Handled}
-use Rattle.sv_recorder.specs.declared.journal.Item.{Item}
-use Rattle.sv_recorder.specs.Items.{latest_first, is_sync, is_overflow, is_stored, is_on}
-use Rattle.sv_recorder.specs.Items.{is_written, is_after_refused_overflow, block_of, stream_before}
-use Rattle.sv_recorder.specs.Items.{stored_before, room_at}
-use Rattle.sv_recorder.specs.Legal.{IsLegal, IsNextItem, EachItem, is_control, outcome_at}
+use Rattle.sv_journal.specs.declared.journal.Origin.{Origin}
+use Rattle.sv_journal.specs.declared.journal.Origin.TheVariants.{Call, Sync, Reply, Overflow}
+use Rattle.sv_journal.specs.declared.journal.Origin.TheVariants.{Command}
+use Rattle.sv_journal.specs.declared.journal.Outcome.TheVariants.{Stored, Refused, Ignored}
+use Rattle.sv_journal.specs.declared.journal.Outcome.TheVariants.{Handled}
+use Rattle.sv_journal.specs.declared.journal.Item.{Item}
+use Rattle.sv_journal.specs.Items.{latest_first, is_sync, is_overflow, is_stored, is_on}
+use Rattle.sv_journal.specs.Items.{is_written, is_after_refused_overflow, block_of, stream_before}
+use Rattle.sv_journal.specs.Items.{stored_before, room_at}
+use Rattle.sv_journal.specs.Legal.{IsLegal, IsNextItem, EachItem, is_control, outcome_at}
 use Rattle.sv_core.specs.Turns.{written_freed, frees_before}
 use Rattle.sv_core.specs.Rises.{IsRise}
 use Rattle.sv_core.specs.Turned.{RisesLittle}

@@ -12,22 +12,20 @@ use Rattle.std.proofs.lemmas.Bool.{true≢false}
 use Rattle.sv_ring.specs.Ring.{Way, Plan}
 use Rattle.sv_workload.specs.declared.load.Command.{Command as Asked}
 use Rattle.sv_workload.specs.Load.{Load, script_of}
-use Rattle.sv_recorder.specs.declared.journal.Origin.{Origin}
-use Rattle.sv_recorder.specs.declared.journal.Origin.TheVariants.{Call, Sync, Reply, Overflow}
-use Rattle.sv_recorder.specs.declared.journal.Origin.TheVariants.{Command}
-use Rattle.sv_recorder.specs.declared.journal.Item.{Item}
-use Rattle.sv_recorder.specs.Items.{latest_first, is_call, is_call_of, is_command, is_overflow}
-use Rattle.sv_recorder.specs.Items.{is_written, is_after_overflow, stored_before}
-use Rattle.sv_recorder.specs.Legal.{IsLegal, IsNextItem, EachItem, AreFirstCommands, is_head}
-use Rattle.sv_recorder.specs.Legal.{is_after_call_group, answers_of, group_of, origins_of}
-use Rattle.sv_recorder.specs.Legal.{commands_in, command_in, freed_before}
+use Rattle.sv_journal.specs.declared.journal.Origin.{Origin}
+use Rattle.sv_journal.specs.declared.journal.Origin.TheVariants.{Call, Sync, Reply, Overflow}
+use Rattle.sv_journal.specs.declared.journal.Origin.TheVariants.{Command}
+use Rattle.sv_journal.specs.declared.journal.Item.{Item}
+use Rattle.sv_journal.specs.Items.{latest_first, is_call, is_call_of, is_command, is_overflow}
+use Rattle.sv_journal.specs.Items.{is_written, is_after_overflow, stored_before}
+use Rattle.sv_journal.specs.Legal.{IsLegal, IsNextItem, EachItem, AreFirstCommands, is_head}
+use Rattle.sv_journal.specs.Legal.{is_after_call_group, answers_of, group_of, origins_of}
+use Rattle.sv_journal.specs.Legal.{commands_in, command_in, freed_before}
 use Rattle.sv_recorder.specs.Freed.{AreFreed}
-use Rattle.sv_recorder.specs.Section.{IsSection, command_head}
-use Rattle.sv_recorder.proofs.Shared.{stored_before-le}
+use Rattle.sv_journal.specs.Section.{IsSection, command_head}
+use Rattle.sv_journal.proofs.Shared.{stored_before-le}
 use Rattle.sv_core.specs.Turns.{StepTurn, Turns, IsSettled, turn_at, has_command, step_turns}
 use Rattle.sv_core.specs.Turns.{written_freed, frees_before}
-use Rattle.sv_core.proofs.OneWriter.{origins_of-append}
-use Rattle.sv_core.proofs.WriterOrder.{count-cons}
 use Rattle.sv_core.proofs.Heads.{first_head, has_command-cons}
 use Rattle.sv_core.proofs.OriginsOfTurns.{origins_of-reverse}
 use Rattle.sv_core.specs.BadTurns.{IsRun, IsReplayedTo, FallsShort}
@@ -38,6 +36,8 @@ use Rattle.sv_core.proofs.ByPlan.{AreSettled, freed_settled, GoesOn, planned}
 use Rattle.sv_core.proofs.NoHeads.{is_answer, AreAnswers, are_answers, no_heads, no_commands}
 use Rattle.sv_core.proofs.NoHeads.{no_told, no_turns, plain_command, plain_turns, plain_commands}
 use Rattle.sv_core.proofs.GoingOn.{CanGoOn, Runs, run_more, run_one, run_answers}
+use Rattle.sv_core.proofs.Counts.{count-cons}
+use Rattle.sv_core.proofs.JournalParts.{origins_of-append}
 
 -- WHAT THE ORIGINS OF A SECTION TELL
 
@@ -76,11 +76,11 @@ group_answers (o ∷ os) rest a =
       at (Command byte param) h = cc
 
 -- the origins of a section
-record IsRow (load : Load) (os : List Origin) (t : StepTurn) (asked : List Asked) : Type 0 where
-  groups : os ≡ flat_map (group_of load) (filter is_head os)
-  told : told_turns os ≡ t ∷ []
-  begins : told_command os ≡ false
-  commands : flat_map command_in os ≡ asked
+pub record IsRow (load : Load) (os : List Origin) (t : StepTurn) (asked : List Asked) : Type 0 where
+  pub groups : os ≡ flat_map (group_of load) (filter is_head os)
+  pub told : told_turns os ≡ t ∷ []
+  pub begins : told_command os ≡ false
+  pub commands : flat_map command_in os ≡ asked
 
 -- a head and its answers
 row_groups : (load : Load) (h : Origin) (rest : List Origin) → is_head h ≡ true →
@@ -98,7 +98,7 @@ row_groups load h rest head groups =
     ∙ ap (λ os. flat_map (group_of load) (h ∷ os))
     (no_heads (answers_of load h) rest (are_answers load h)))
 
-row_call : (load : Load) (writer step : ℕ) (rest : List Origin) (asked : List Asked) →
+pub row_call : (load : Load) (writer step : ℕ) (rest : List Origin) (asked : List Asked) →
     rest ≡ flat_map (group_of load) (filter is_head rest) → told_turns rest ≡ [] →
     flat_map command_in rest ≡ asked
     → IsRow load (Call writer step ∷ (answers_of load (Call writer step) ++ rest))
@@ -244,7 +244,7 @@ record IsAsked (load : Load) (items : List Item) (t : StepTurn) (asked : List As
       (slice_get load.commands (length (commands_in items)) ≡ Some c)
 
 -- no command stands before the next call in these
-turns-append : (items more : List Item) → has_command more ≡ false →
+pub turns-append : (items more : List Item) → has_command more ≡ false →
     step_turns (items ++ more) ≡ step_turns items ++ step_turns more
 turns-append [] more none = refl
 turns-append (i ∷ items) more none =

@@ -9,24 +9,24 @@ use Rattle.std.proofs.lemmas.List.{reverse-append, reverse-reverse}
 use Rattle.std.proofs.lemmas.List.Sums.{sum_by-cons, take_while-cons}
 use Rattle.sv_packet.specs.Spelling.{spelling_of}
 use Rattle.sv_workload.specs.Load.{Load, period}
-use Rattle.sv_recorder.specs.declared.journal.Origin.{Origin}
-use Rattle.sv_recorder.specs.declared.journal.Origin.TheVariants.{Call, Sync, Reply, Overflow}
-use Rattle.sv_recorder.specs.declared.journal.Origin.TheVariants.{Command}
-use Rattle.sv_recorder.specs.declared.journal.Outcome.{Outcome}
-use Rattle.sv_recorder.specs.declared.journal.Outcome.TheVariants.{Stored, Refused, Ignored}
-use Rattle.sv_recorder.specs.declared.journal.Outcome.TheVariants.{Handled}
-use Rattle.sv_recorder.specs.declared.journal.Item.{Item}
-use Rattle.sv_recorder.specs.Items.{latest_first, is_call, is_call_of, is_command, is_sync}
-use Rattle.sv_recorder.specs.Items.{is_overflow, is_start, is_stop_reply, is_stored, is_refused}
-use Rattle.sv_recorder.specs.Items.{is_packet, is_on, is_written, last_moment, pending_at}
-use Rattle.sv_recorder.specs.Items.{is_after_overflow, is_after_refused_overflow, before_overflow}
-use Rattle.sv_recorder.specs.Items.{event_of, block_of, stream_before, stored_before}
-use Rattle.sv_recorder.specs.Legal.{IsLegal, IsNextItem, IsCommandInPlace, IsNextStep, IsMoment}
-use Rattle.sv_recorder.specs.Legal.{IsCount, EachItem, AreFirstCommands, is_head, is_control}
-use Rattle.sv_recorder.specs.Legal.{is_after_call_group, outcome_at, write_outcome, owes_overflow}
-use Rattle.sv_recorder.specs.Legal.{overflow_moment, freed_before, commands_in, command_in}
-use Rattle.sv_recorder.specs.Legal.{ticks_of, group_of}
-use Rattle.sv_recorder.specs.Stream.{stream_of}
+use Rattle.sv_journal.specs.declared.journal.Origin.{Origin}
+use Rattle.sv_journal.specs.declared.journal.Origin.TheVariants.{Call, Sync, Reply, Overflow}
+use Rattle.sv_journal.specs.declared.journal.Origin.TheVariants.{Command}
+use Rattle.sv_journal.specs.declared.journal.Outcome.{Outcome}
+use Rattle.sv_journal.specs.declared.journal.Outcome.TheVariants.{Stored, Refused, Ignored}
+use Rattle.sv_journal.specs.declared.journal.Outcome.TheVariants.{Handled}
+use Rattle.sv_journal.specs.declared.journal.Item.{Item}
+use Rattle.sv_journal.specs.Items.{latest_first, is_call, is_call_of, is_command, is_sync}
+use Rattle.sv_journal.specs.Items.{is_overflow, is_start, is_stop_reply, is_stored, is_refused}
+use Rattle.sv_journal.specs.Items.{is_packet, is_on, is_written, last_moment, pending_at}
+use Rattle.sv_journal.specs.Items.{is_after_overflow, is_after_refused_overflow, before_overflow}
+use Rattle.sv_journal.specs.Items.{event_of, block_of, stream_before, stored_before}
+use Rattle.sv_journal.specs.Legal.{IsLegal, IsNextItem, IsCommandInPlace, IsNextStep, IsMoment}
+use Rattle.sv_journal.specs.Legal.{IsCount, EachItem, AreFirstCommands, is_head, is_control}
+use Rattle.sv_journal.specs.Legal.{is_after_call_group, outcome_at, write_outcome, owes_overflow}
+use Rattle.sv_journal.specs.Legal.{overflow_moment, freed_before, commands_in, command_in}
+use Rattle.sv_journal.specs.Legal.{ticks_of, group_of}
+use Rattle.sv_journal.specs.Stream.{stream_of}
 use Rattle.sv_core.specs.Turns.{StepTurn, IsReplayed, IsSettled, IsSameButIdle, without_idle}
 use Rattle.sv_core.specs.Turns.{turns_of, turn_at, has_command, step_turns, written_freed}
 use Rattle.sv_core.specs.Turns.{frees_before}

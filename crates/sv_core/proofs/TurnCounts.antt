@@ -5,15 +5,15 @@ use Rattle.std.specs.Prelude.{count_by, reverse, ◌==◌}
 use Rattle.std.proofs.lemmas.List.{reverse-append}
 use Rattle.std.proofs.lemmas.List.Sums.{sum_by-append}
 use Rattle.sv_workload.specs.Load.{Load}
-use Rattle.sv_recorder.specs.declared.journal.Origin.{Origin}
-use Rattle.sv_recorder.specs.declared.journal.Origin.TheVariants.{Call, Sync, Reply, Overflow}
-use Rattle.sv_recorder.specs.declared.journal.Origin.TheVariants.{Command}
-use Rattle.sv_recorder.specs.declared.journal.Item.{Item}
-use Rattle.sv_recorder.specs.Items.{is_call, is_call_of, is_command}
-use Rattle.sv_recorder.specs.Legal.{IsLegal, IsNextItem, EachItem}
+use Rattle.sv_journal.specs.declared.journal.Origin.{Origin}
+use Rattle.sv_journal.specs.declared.journal.Origin.TheVariants.{Call, Sync, Reply, Overflow}
+use Rattle.sv_journal.specs.declared.journal.Origin.TheVariants.{Command}
+use Rattle.sv_journal.specs.declared.journal.Item.{Item}
+use Rattle.sv_journal.specs.Items.{is_call, is_call_of, is_command}
+use Rattle.sv_journal.specs.Legal.{IsLegal, IsNextItem, EachItem}
 use Rattle.sv_core.specs.Turns.{StepTurn, turn_at, has_command, step_turns}
-use Rattle.sv_core.proofs.WriterOrder.{count-cons}
 use Rattle.sv_core.proofs.Heads.{EachLater, each_later, has_command-cons, not_again, not_twice}
+use Rattle.sv_core.proofs.Counts.{count-cons}
 
 -- of a list from behind as many pass
 pub count-reverse : {X : Type 0} (p : X → Bool) (xs : List X) →

@@ -5,20 +5,20 @@ use Rattle.std.proofs.Common.{arith, append_assoc, append-nil}
 use Rattle.std.specs.Prelude.{count_by, nat_lt}
 use Rattle.std.proofs.lemmas.Bool.{or_parts}
 use Rattle.sv_workload.specs.Load.{Load}
-use Rattle.sv_recorder.specs.declared.journal.Origin.{Origin}
-use Rattle.sv_recorder.specs.declared.journal.Origin.TheVariants.{Call, Sync, Reply, Overflow}
-use Rattle.sv_recorder.specs.declared.journal.Origin.TheVariants.{Command}
-use Rattle.sv_recorder.specs.declared.journal.Item.{Item}
-use Rattle.sv_recorder.specs.Items.{latest_first, is_call, is_command, is_overflow, before_overflow}
-use Rattle.sv_recorder.specs.Legal.{IsNextItem, EachItem}
+use Rattle.sv_journal.specs.declared.journal.Origin.{Origin}
+use Rattle.sv_journal.specs.declared.journal.Origin.TheVariants.{Call, Sync, Reply, Overflow}
+use Rattle.sv_journal.specs.declared.journal.Origin.TheVariants.{Command}
+use Rattle.sv_journal.specs.declared.journal.Item.{Item}
+use Rattle.sv_journal.specs.Items.{latest_first, is_call, is_command, is_overflow, before_overflow}
+use Rattle.sv_journal.specs.Legal.{IsNextItem, EachItem}
 use Rattle.sv_core.specs.Order.{Turn, Takes_step, Reads, Reads_all, Sends, is_step, is_send}
 use Rattle.sv_core.specs.Turns.{StepTurn, has_command, turn_at, step_turns}
 use Rattle.sv_core.specs.Simulated.{before_number, before_section, ordered_turns}
 use Rattle.sv_core.proofs.Sections.{before_number-append}
-use Rattle.sv_core.proofs.WriterOrder.{count-cons, count-not, before_number-all, before_number-more}
-use Rattle.sv_core.proofs.LatestSection.{calls_in, calls-cons, not_head}
 use Rattle.sv_core.proofs.Heads.{EachLater, reverse_moved, each_later, has_command-cons, not_again}
 use Rattle.sv_core.proofs.Heads.{not_twice}
+use Rattle.sv_core.proofs.Counts.{count-cons, count-not, before_number-all, before_number-more, calls_in, calls-cons}
+use Rattle.sv_core.proofs.JournalParts.{not_head}
 
 -- how many commands there are
 abbrev commands_of : List Item → ℕ
@@ -222,7 +222,7 @@ ordered-append load items (Reads_all ∷ later) earlier = ordered-append load it
 ordered-append load items (Sends ∷ later) earlier = ordered-append load items later earlier
 
 -- a turn for each step
-ordered-length : (load : Load) (items : List Item) (turns : List Turn)
+pub ordered-length : (load : Load) (items : List Item) (turns : List Turn)
     → length (ordered_turns load items turns) ≡ count_by is_step turns
 ordered-length load items [] = refl
 ordered-length load items (Takes_step writer ∷ earlier) =

@@ -1,12 +1,12 @@
 -- The turns of a journal with one item more at its end.
 use Rattle.std.proofs.Common.{◌≡◌, ℕ, ◌-◌, Bool, true, false, ◌||◌, cond, List, [], ◌∷◌, ◌++◌, refl}
 use Rattle.std.proofs.Common.{sym, ap, ◌∙◌, append-nil}
-use Rattle.sv_recorder.specs.declared.journal.Origin.{Origin}
-use Rattle.sv_recorder.specs.declared.journal.Origin.TheVariants.{Call, Sync, Reply, Overflow}
-use Rattle.sv_recorder.specs.declared.journal.Origin.TheVariants.{Command}
-use Rattle.sv_recorder.specs.declared.journal.Item.{Item}
-use Rattle.sv_recorder.specs.Items.{latest_first, is_call, is_command, is_written}
-use Rattle.sv_recorder.proofs.Shared.{latest_first-push}
+use Rattle.sv_journal.specs.declared.journal.Origin.{Origin}
+use Rattle.sv_journal.specs.declared.journal.Origin.TheVariants.{Call, Sync, Reply, Overflow}
+use Rattle.sv_journal.specs.declared.journal.Origin.TheVariants.{Command}
+use Rattle.sv_journal.specs.declared.journal.Item.{Item}
+use Rattle.sv_journal.specs.Items.{latest_first, is_call, is_command, is_written}
+use Rattle.sv_journal.proofs.Shared.{latest_first-push}
 use Rattle.sv_core.specs.Turns.{StepTurn, turn_at, has_command, step_turns, written_freed}
 use Rattle.sv_core.specs.Turns.{frees_before}
 use Rattle.sv_core.specs.Turned.{asked_last, turns_with}

@@ -9,12 +9,12 @@ use Rattle.std.proofs.lemmas.Option.{slice_get-get_or}
 use Rattle.std.proofs.lemmas.Bool.{true≢false}
 use Rattle.sv_ring.specs.Ring.{Way, Plan}
 use Rattle.sv_workload.specs.Load.{Load, script_of}
-use Rattle.sv_recorder.specs.declared.journal.Item.{Item}
-use Rattle.sv_recorder.specs.Items.{latest_first, is_call_of}
-use Rattle.sv_recorder.specs.Legal.{IsLegal}
+use Rattle.sv_journal.specs.declared.journal.Item.{Item}
+use Rattle.sv_journal.specs.Items.{latest_first, is_call_of}
+use Rattle.sv_journal.specs.Legal.{IsLegal}
 use Rattle.sv_recorder.specs.Freed.{AreFreed}
-use Rattle.sv_recorder.specs.Stream.{stream_of}
-use Rattle.sv_recorder.specs.Section.{IsSection}
+use Rattle.sv_journal.specs.Stream.{stream_of}
+use Rattle.sv_journal.specs.Section.{IsSection}
 use Rattle.sv_core.specs.Turns.{StepTurn, Turns, IsReplayed, written_freed, frees_before}
 use Rattle.sv_core.specs.BadTurns.{IsReplayedTo, FallsShort, IsFault, No_step, No_command, No_frees}
 use Rattle.sv_core.specs.BadTurns.{Left_over, Faulty, IsBadTurns}

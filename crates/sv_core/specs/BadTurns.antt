@@ -2,8 +2,8 @@
 use Rattle.std.specs.Prelude.{◌≡◌, ℕ, suc, ◌-◌, ◌<◌, ◌≤◌, List, [], ◌∷◌, ◌++◌, length, take}
 use Rattle.std.specs.Prelude.{slice_get, count_by, IsTrue, Some, All}
 use Rattle.sv_workload.specs.Load.{Load, script_of}
-use Rattle.sv_recorder.specs.declared.journal.Item.{Item}
-use Rattle.sv_recorder.specs.Items.{latest_first, is_call_of, is_command, is_written, stored_before}
+use Rattle.sv_journal.specs.declared.journal.Item.{Item}
+use Rattle.sv_journal.specs.Items.{latest_first, is_call_of, is_command, is_written, stored_before}
 use Rattle.sv_core.specs.Turns.{StepTurn, Turns, IsReplayed, written_freed, frees_before}
 
 -- a journal that these step turns give, whatever is freed

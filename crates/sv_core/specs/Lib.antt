@@ -1,7 +1,7 @@
 pub mod Turns
 pub mod Order
 pub mod Simulated
-pub mod Built
+pub mod Played
 pub mod Start
 pub mod Turned
 pub mod Settled

@@ -1,7 +1,7 @@
 -- How far the freed of a journal rises.
 use Rattle.std.specs.Prelude.{ℕ, ◌-◌, ◌≤◌, List, IsTrue}
-use Rattle.sv_recorder.specs.declared.journal.Item.{Item}
-use Rattle.sv_recorder.specs.Items.{is_written}
+use Rattle.sv_journal.specs.declared.journal.Item.{Item}
+use Rattle.sv_journal.specs.Items.{is_written}
 use Rattle.sv_core.specs.Turns.{written_freed}
 
 -- from one written item to the next freed does not fall, and rises by at most so much

@@ -1,7 +1,7 @@
 -- A journal with the freed that a replay gives it.
 use Rattle.std.specs.Prelude.{List, [], ◌∷◌, reverse, if◌then◌else◌}
-use Rattle.sv_recorder.specs.declared.journal.Item.{Item}
-use Rattle.sv_recorder.specs.Items.{latest_first, is_written}
+use Rattle.sv_journal.specs.declared.journal.Item.{Item}
+use Rattle.sv_journal.specs.Items.{latest_first, is_written}
 use Rattle.sv_core.specs.Turns.{written_freed}
 
 -- the items, the latest first; one that is not written gets the freed of the latest written item

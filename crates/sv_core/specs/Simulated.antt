@@ -2,12 +2,12 @@
 use Rattle.std.specs.Prelude.{◌≡◌, ℕ, ◌+◌, ◌-◌, min, Bool, List, [], ◌∷◌, ◌++◌, reverse, count_by}
 use Rattle.std.specs.Prelude.{nat_lt, if◌then◌else◌}
 use Rattle.sv_workload.specs.Load.{Load}
-use Rattle.sv_recorder.specs.declared.journal.Origin.{Origin}
-use Rattle.sv_recorder.specs.declared.journal.Origin.TheVariants.{Overflow}
-use Rattle.sv_recorder.specs.declared.journal.Item.{Item}
-use Rattle.sv_recorder.specs.Items.{latest_first, is_call, is_command, is_overflow, before_overflow}
-use Rattle.sv_recorder.specs.Items.{stored_before}
-use Rattle.sv_recorder.specs.Legal.{IsLegal, IsWhole, EachItem}
+use Rattle.sv_journal.specs.declared.journal.Origin.{Origin}
+use Rattle.sv_journal.specs.declared.journal.Origin.TheVariants.{Overflow}
+use Rattle.sv_journal.specs.declared.journal.Item.{Item}
+use Rattle.sv_journal.specs.Items.{latest_first, is_call, is_command, is_overflow, before_overflow}
+use Rattle.sv_journal.specs.Items.{stored_before}
+use Rattle.sv_journal.specs.Legal.{IsLegal, IsWhole, EachItem}
 use Rattle.sv_core.specs.Turns.{StepTurn}
 use Rattle.sv_core.specs.Order.{Turn, Takes_step, Reads, Reads_all, Sends, is_step, is_send}
 use Rattle.sv_core.specs.Order.{order_of}

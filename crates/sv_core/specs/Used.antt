@@ -1,7 +1,7 @@
 -- The frees of turns, and how many of them the items of a journal use.
 use Rattle.std.specs.Prelude.{◌≡◌, ℕ, ◌≤◌, Bool, List, ◌++◌, length, take}
-use Rattle.sv_recorder.specs.declared.journal.Item.{Item}
-use Rattle.sv_recorder.specs.Items.{latest_first, is_after_refused_overflow}
+use Rattle.sv_journal.specs.declared.journal.Item.{Item}
+use Rattle.sv_journal.specs.Items.{latest_first, is_after_refused_overflow}
 use Rattle.sv_core.specs.Turns.{StepTurn, Turns, written_freed, frees_before}
 
 abbrev pub turns_by : List StepTurn → List ℕ → Turns

@@ -1,9 +1,9 @@
 ghost use Rattle.std.specs.Prelude.{◌≡◌, ℕ, ◌-◌, ◌^◌, ◌≤◌, ◌⊎◌, List, All};
 ghost use Rattle.sv_workload.specs.Load.{Load};
-ghost use Rattle.sv_recorder.specs.declared.journal.Item.{Item};
-ghost use Rattle.sv_recorder.specs.Items.{latest_first};
-ghost use Rattle.sv_recorder.specs.Legal.{IsLegal, AreFirstCommands, EachItem};
-ghost use Rattle.sv_recorder.specs.Stream.{stream_of};
+ghost use Rattle.sv_journal.specs.declared.journal.Item.{Item};
+ghost use Rattle.sv_journal.specs.Items.{latest_first};
+ghost use Rattle.sv_journal.specs.Legal.{IsLegal, AreFirstCommands, EachItem};
+ghost use Rattle.sv_journal.specs.Stream.{stream_of};
 ghost use Rattle.sv_core.specs.Simulated.{IsSimulated};
 ghost use Rattle.sv_core.specs.Turns.{Turns, IsReplayed, IsSameButIdle, turns_of, frees_before};
 ghost use Rattle.sv_core.specs.BadTurns.{IsBadTurns, AreAskable};

@@ -15,8 +15,8 @@ mod start;
 mod turns;
 
 pub use laws::{bad_turns, frees_small, replay_same, replayed_once, simulated_once};
-pub use replays::{ReplayFault, Simulated, replay};
-pub use simulation::{is_built, simulate};
+pub use replays::{ReplayFault, replay};
+pub use simulation::{Simulated, simulate};
 pub use start::has_start;
 pub use turns::{StepTurn, Turns, turns_of};
 

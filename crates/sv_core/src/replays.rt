@@ -3,17 +3,19 @@ ghost use Rattle.std.specs.Prelude.{◌≡◌, ◌≤◌, ℕ, true, [], IfOk, I
 ghost use Rattle.std.specs.Prelude.{take};
 ghost use Rattle.sv_ring.specs.Ring.{Plan};
 ghost use Rattle.sv_recorder.specs.Plain.{IsPlain};
-ghost use Rattle.sv_recorder.specs.Stream.{stream_of};
+ghost use Rattle.sv_journal.specs.Stream.{stream_of};
 ghost use Rattle.sv_core.specs.BadTurns.{IsBadTurns};
 ghost use Rattle.sv_core.specs.Turns.{IsReplayed};
 ghost use Rattle.sv_core.specs.Turned.{kept};
 ghost use Rattle.sv_core.specs.Used.{IsCounted, IsUsingOthers};
 
 use crate::plan_ring::PlanRing;
+use crate::simulation::Simulated;
 use crate::turns::{Turns, is_lost, is_written};
 use std::alloc::Global;
+use sv_journal::Item;
 use sv_prim::NoMemory;
-use sv_recorder::{Item, Journal, Recorder};
+use sv_recorder::Recorder;
 use sv_ring::UpWriter;
 use sv_workload::Workload;
 use thiserror::Error;
@@ -29,13 +31,6 @@ pub enum ReplayFault {
     /// There was no memory for the journal or the bytes.
     #[error("no memory")]
     NoMemory,
-}
-
-/// A whole run: its journal, and all bytes that were sent.
-#[derive(Drop)]
-pub struct Simulated {
-    pub journal: Journal,
-    pub bytes: Vec<u8>,
 }
 
 /// How many frees are used by the items so far, how many bytes the last written item found freed,

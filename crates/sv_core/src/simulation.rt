@@ -1,35 +1,52 @@
-//! The simulation of a workload: its steps in their order, over one ring that the host empties.
-ghost use Rattle.std.specs.Prelude.{◌≡◌, true, [], length, IfOk};
+//! The simulation of a workload: its turns in their order, over one ring in one value.
+ghost use Rattle.std.specs.Prelude.{◌≡◌, ◌+◌, ◌-◌, ◌<◌, ◌≤◌, ℕ, List, [], ◌∷◌, ◌++◌, IfOk};
+ghost use Rattle.std.specs.Prelude.{length, min, count_by, replicate, reverse};
 ghost use Rattle.sv_ring.specs.Ring.{Still};
-ghost use Rattle.sv_recorder.specs.Legal.{IsLegal};
+ghost use Rattle.sv_workload.specs.Load.{Load, script_of};
+ghost use Rattle.sv_workload.specs.Need.{steps_in};
+ghost use Rattle.sv_journal.specs.Items.{is_call_of};
 ghost use Rattle.sv_recorder.specs.Plain.{IsPlain};
-ghost use Rattle.sv_recorder.specs.Stream.{stream_of};
-ghost use Rattle.sv_core.specs.Built.{is_built as built};
+ghost use Rattle.sv_journal.specs.Stream.{stream_of};
+ghost use Rattle.sv_core.specs.Order.{Turn, Takes_step, is_possible, possible, scheduled};
+ghost use Rattle.sv_core.specs.Played.{IsPlayed, with_step, played_rounds};
 ghost use Rattle.sv_core.specs.Simulated.{IsSimulated};
 
 use std::alloc::Global;
+use sv_journal::Journal;
 use sv_prim::NoMemory;
-use sv_recorder::{Finished, Recorder};
+use sv_recorder::Recorder;
 use sv_ring::PlainRing;
-use sv_workload::Workload;
+use sv_workload::{Action, Workload};
 
-/// Whether what the workload asks for is built: one writer, no tasks, no schedule, and a ring of at
-/// least 1024 bytes.
-pub fn is_built(load: &Workload) -> bool
-    ensures { result ≡ built load.now }
+/// A whole run: its journal, and all bytes that were sent.
+#[derive(Drop)]
+pub struct Simulated {
+    pub journal: Journal,
+    pub bytes: Vec<u8>,
+}
+
+/// The host takes so many bytes, or all that are stored where these are fewer. Bytes that it takes
+/// go through the buffer, which is small, and are not looked at.
+fn read(recorder: &mut Recorder<'_, PlainRing>, most: u32, buf: &mut [u8; 1024])
+    ensures { recorder.new ≡ record recorder.old {
+      freed = min (recorder.old.freed + most) (length recorder.old.sent);
+    } }
 {
-    load.writers() == 1
-        && load.tasks().is_empty()
-        && !load.scheduled()
-        && load.schedule().is_empty()
-        && load.ring() >= 1024
+    recorder.keeps();
+    let mut left = most as usize;
+    while left > 0 {
+        let part = left.min(buf.len());
+        let count = recorder.host_read(&mut buf[..part]);
+        if count < part {
+            return;
+        }
+        left -= count;
+    }
 }
 
 /// The host takes everything that is stored: a read that does not fill the buffer is the last one.
-fn take_all(recorder: &mut Recorder<'_, PlainRing>, buf: &mut [u8; 1024])
-    ensures taken { recorder.new ≡ record recorder.old { freed = length recorder.old.sent } }
-    ensures legal { IsLegal recorder.new.load recorder.new.items }
-    ensures stream { recorder.new.sent ≡ stream_of recorder.new.load recorder.new.items }
+fn read_all(recorder: &mut Recorder<'_, PlainRing>, buf: &mut [u8; 1024])
+    ensures { recorder.new ≡ record recorder.old { freed = length recorder.old.sent } }
 {
     recorder.keeps();
     loop {
@@ -39,35 +56,116 @@ fn take_all(recorder: &mut Recorder<'_, PlainRing>, buf: &mut [u8; 1024])
     }
 }
 
-/// Each step of the one writer in turn, and after each the host takes everything that is stored.
-fn play(recorder: &mut Recorder<'_, PlainRing>)
-    requires built { built recorder.old.load ≡ true }
-    requires plain { IsPlain recorder.old.load }
-    requires items { recorder.old.items ≡ [] }
-    requires still { recorder.old.way ≡ Still }
+/// The next step of a writer. False where its script is through.
+fn step(recorder: &mut Recorder<'_, PlainRing>, writer: u32) -> bool
+    requires writer { writer < length recorder.old.load.scripts }
     ensures load { recorder.new.load ≡ recorder.old.load }
-    ensures simulated { IsSimulated recorder.new.load recorder.new.items }
-    ensures stream { recorder.new.sent ≡ stream_of recorder.new.load recorder.new.items }
+    ensures possible { (load : Load) → (turns : List Turn) → IsPlayed load turns recorder.old →
+        result ≡ is_possible load (reverse turns) (Takes_step writer) }
+    ensures played { (load : Load) → (turns : List Turn) → IsPlayed load turns recorder.old →
+        IsPlayed load (with_step load turns writer) recorder.new }
 {
-    recorder.keeps();
-    let mut buf = [0; 1024];
-    while let Some(_) = recorder.section(0) {
-        take_all(recorder, &mut buf);
+    match recorder.section(writer) {
+        Some(_) => {
+            recorder.keeps();
+            true
+        }
+        None => false,
     }
 }
 
-/// The journal of a workload's simulation, and the ring with all bytes that were sent.
+/// So many steps of a writer, as far as its script goes.
+fn steps(recorder: &mut Recorder<'_, PlainRing>, writer: u32, count: u32)
+    requires writer { writer < length recorder.old.load.scripts }
+    ensures load { recorder.new.load ≡ recorder.old.load }
+    ensures played { (load : Load) → (asked : List Turn) →
+        IsPlayed load (possible load asked) recorder.old →
+        IsPlayed load (possible load (replicate count (Takes_step writer) ++ asked)) recorder.new }
+{
+    for _ in 0..count {
+        if !step(recorder, writer) {
+            return;
+        }
+    }
+}
+
+/// The turns of the schedule, line by line.
+fn play_schedule(load: &Workload, recorder: &mut Recorder<'_, PlainRing>, buf: &mut [u8; 1024])
+    requires played { IsPlayed load.now [] recorder.old }
+    ensures played { IsPlayed load.now (scheduled load.now) recorder.new }
+{
+    let lines = load.schedule();
+    for at in 0..lines.len() {
+        match lines[at] {
+            Action::Step { writer, count } => steps(recorder, writer, count),
+            Action::Read { most } => read(recorder, most, buf),
+            Action::Send => {}
+        }
+    }
+}
+
+/// How many rounds are left: as many as the writer has steps that has most of them.
+fn rounds_left(load: &Workload, recorder: &Recorder<'_, PlainRing>) -> u32
+    requires load { recorder.now.load ≡ load.now }
+    ensures enough { (writer : ℕ) → writer < length load.now.scripts →
+        length (script_of load.now writer)
+        ≤ count_by (λ i. is_call_of writer i.origin) recorder.now.items + result }
+    ensures within { result ≤ steps_in load.now }
+{
+    let mut most = 0;
+    for writer in 0..load.writers() {
+        most = most.max(recorder.left(writer));
+    }
+    most
+}
+
+/// A round: each writer whose script is not through takes a step, and after each step the host
+/// takes everything.
+fn play_round(load: &Workload, recorder: &mut Recorder<'_, PlainRing>, buf: &mut [u8; 1024])
+    requires load { recorder.old.load ≡ load.now }
+    ensures load { recorder.new.load ≡ load.now }
+    ensures played { (rounds : ℕ) → IsPlayed load.now (played_rounds load.now rounds) recorder.old →
+        IsPlayed load.now (played_rounds load.now (rounds + 1)) recorder.new }
+{
+    for writer in 0..load.writers() {
+        if step(recorder, writer) {
+            read_all(recorder, buf);
+        }
+    }
+}
+
+/// All turns of the workload's order.
+fn play(load: &Workload, recorder: &mut Recorder<'_, PlainRing>)
+    requires played { IsPlayed load.now [] recorder.old }
+    ensures simulated { IsSimulated load.now recorder.new.items }
+    ensures stream { recorder.new.sent ≡ stream_of load.now recorder.new.items }
+{
+    let mut buf = [0; 1024];
+    play_schedule(load, recorder, &mut buf);
+    let rounds = rounds_left(load, recorder);
+    for _ in 0..rounds {
+        play_round(load, recorder, &mut buf);
+    }
+    read_all(recorder, &mut buf);
+}
+
+/// Runs a workload over one ring, whose host reads as the schedule says, and then everything after
+/// each step: the journal of that run, and all bytes that were sent.
 ///
-/// Memory is taken once for the journal and once for the bytes, as much as the workload may need.
-/// Times are in ticks, and begin at 0.
-pub fn simulate(alloc: Global, load: &Workload) -> Result<Finished<PlainRing>, NoMemory>
-    requires built { built load.now ≡ true }
+/// One pass over the workload's order. Memory is taken once for the journal and once for the bytes,
+/// as much as the workload may need. Times are in ticks, and begin at 0.
+pub fn simulate(alloc: Global, load: &Workload) -> Result<Simulated, NoMemory>
     requires plain { IsPlain load.now }
     ensures simulated { IfOk result (λ run. IsSimulated load.now run.journal.items) }
-    ensures sent { IfOk result (λ run. run.up.sent ≡ stream_of load.now run.journal.items) }
+    ensures bytes { IfOk result (λ run. run.bytes.items ≡ stream_of load.now run.journal.items) }
 {
     let up = PlainRing::new(alloc, load.ring(), load.need().bytes)?;
     let mut recorder = Recorder::new(alloc, load, up)?;
-    play(&mut recorder);
-    Ok(recorder.finish())
+    recorder.keeps();
+    play(load, &mut recorder);
+    let run = recorder.finish();
+    Ok(Simulated {
+        journal: run.journal,
+        bytes: run.up.into_bytes(),
+    })
 }

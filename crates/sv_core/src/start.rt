@@ -3,10 +3,10 @@ ghost use Rattle.std.specs.Prelude.{◌≡◌, false};
 ghost use Rattle.std.specs.Option.{option_map_or};
 ghost use Rattle.sv_workload.specs.Load.{act_of};
 ghost use Rattle.sv_workload.specs.Need.{is_start_act};
-ghost use Rattle.sv_recorder.specs.Items.{is_start as starts};
+ghost use Rattle.sv_journal.specs.Items.{is_start as starts};
 ghost use Rattle.sv_core.specs.Start.{has_start as holds_start};
 
-use sv_recorder::{Item, Origin};
+use sv_journal::{Item, Origin};
 use sv_workload::{Act, Workload};
 
 /// Whether a writer's step starts the recorder.

@@ -1,15 +1,15 @@
 //! The turns of a journal: what its run was, step by step.
 ghost use Rattle.std.specs.Prelude.{◌≡◌, ◌&&◌, List, IfOk};
-ghost use Rattle.sv_recorder.specs.declared.journal.Item.{Item as Kept};
-ghost use Rattle.sv_recorder.specs.Items.{latest_first, is_overflow, is_refused};
-ghost use Rattle.sv_recorder.specs.Items.{is_after_refused_overflow, is_written as writes};
-ghost use Rattle.sv_recorder.specs.Legal.{EachItem};
+ghost use Rattle.sv_journal.specs.declared.journal.Item.{Item as Kept};
+ghost use Rattle.sv_journal.specs.Items.{latest_first, is_overflow, is_refused};
+ghost use Rattle.sv_journal.specs.Items.{is_after_refused_overflow, is_written as writes};
+ghost use Rattle.sv_journal.specs.Legal.{EachItem};
 ghost use Rattle.sv_core.specs.Turns.{turns_of as turns_in};
 ghost use Rattle.sv_core.specs.Turned.{kept, asked_last, turns_with, RisesLittle};
 
 use std::alloc::Global;
+use sv_journal::{Item, Journal, Origin, Outcome};
 use sv_prim::NoMemory;
-use sv_recorder::{Item, Journal, Origin, Outcome};
 
 /// A writer's step, and whether its section handles a command of the host.
 #[derive(Debug, Clone, Copy, PartialEq, Eq)]

@@ -19,10 +19,10 @@ use Rattle.sv_packet.proofs.Shared.{plain_small}
 use Rattle.sv_workload.specs.declared.load.Task.{Task}
 use Rattle.sv_workload.specs.declared.load.ModuleRow.{ModuleRow}
 use Rattle.sv_workload.specs.Load.{Load}
-use Rattle.sv_recorder.specs.declared.journal.Kind.{Kind}
-use Rattle.sv_recorder.specs.declared.journal.Kind.TheVariants as kinds
-use Rattle.sv_recorder.specs.Items.{reply_event, system_time, micros_at, task_info, stack_info}
-use Rattle.sv_recorder.specs.Items.{module_desc}
+use Rattle.sv_journal.specs.declared.journal.Kind.{Kind}
+use Rattle.sv_journal.specs.declared.journal.Kind.TheVariants as kinds
+use Rattle.sv_journal.specs.Items.{reply_event, system_time, micros_at, task_info, stack_info}
+use Rattle.sv_journal.specs.Items.{module_desc}
 use Rattle.sv_workload.specs.Need.{HasShortTexts}
 
 number_short : (value : ℕ) → length (number_spelling value) ≤ 5

@@ -11,18 +11,18 @@ use Rattle.sv_workload.specs.declared.load.Act.{Act}
 use Rattle.sv_workload.specs.declared.load.Act.TheVariants as acts
 use Rattle.sv_workload.specs.Load.{Load, act_of}
 use Rattle.sv_workload.specs.Need.{need_bytes, act_bytes, replies_in, one_if, is_start_act}
-use Rattle.sv_recorder.specs.declared.journal.Kind.TheVariants as kinds
-use Rattle.sv_recorder.specs.declared.journal.Origin.{Origin}
-use Rattle.sv_recorder.specs.declared.journal.Origin.TheVariants.{Call, Sync, Reply, Overflow}
-use Rattle.sv_recorder.specs.declared.journal.Origin.TheVariants.{Command}
-use Rattle.sv_recorder.specs.declared.journal.Item.{Item}
-use Rattle.sv_recorder.specs.Items.{latest_first, is_sync, is_stored, act_event, event_at, block_of}
-use Rattle.sv_recorder.specs.Items.{delta_of, stream_before}
-use Rattle.sv_recorder.specs.Legal.{IsLegal, EachItem, IsNextItem}
-use Rattle.sv_recorder.specs.Open.{IsOpen, IsDue}
+use Rattle.sv_journal.specs.declared.journal.Kind.TheVariants as kinds
+use Rattle.sv_journal.specs.declared.journal.Origin.{Origin}
+use Rattle.sv_journal.specs.declared.journal.Origin.TheVariants.{Call, Sync, Reply, Overflow}
+use Rattle.sv_journal.specs.declared.journal.Origin.TheVariants.{Command}
+use Rattle.sv_journal.specs.declared.journal.Item.{Item}
+use Rattle.sv_journal.specs.Items.{latest_first, is_sync, is_stored, act_event, event_at, block_of}
+use Rattle.sv_journal.specs.Items.{delta_of, stream_before}
+use Rattle.sv_journal.specs.Legal.{IsLegal, EachItem, IsNextItem}
+use Rattle.sv_journal.specs.Open.{IsOpen, IsDue}
 use Rattle.sv_need.specs.Next.{MayCome}
-use Rattle.sv_recorder.specs.Stream.{stream_of}
-use Rattle.sv_recorder.proofs.Shared.{outcome_at-control, IsOpen-legal}
+use Rattle.sv_journal.specs.Stream.{stream_of}
+use Rattle.sv_journal.proofs.Shared.{outcome_at-control, IsOpen-legal}
 use Rattle.sv_workload.specs.Need.{HasShortTexts}
 use Rattle.sv_need.specs.Weights.{byte_weights, bytes_ahead}
 use Rattle.sv_need.proofs.Groups.{act_most}

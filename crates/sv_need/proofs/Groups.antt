@@ -9,14 +9,14 @@ use Rattle.sv_workload.specs.declared.load.Act.{Act}
 use Rattle.sv_workload.specs.declared.load.Act.TheVariants as acts
 use Rattle.sv_workload.specs.Load.{Load, act_of}
 use Rattle.sv_workload.specs.Need.{is_start_act, is_stop_act}
-use Rattle.sv_recorder.specs.declared.journal.Kind.TheVariants as kinds
-use Rattle.sv_recorder.specs.declared.journal.Origin.{Origin}
-use Rattle.sv_recorder.specs.declared.journal.Origin.TheVariants.{Call, Sync, Reply, Overflow}
-use Rattle.sv_recorder.specs.declared.journal.Origin.TheVariants.{Command}
-use Rattle.sv_recorder.specs.Items.{is_start, is_stop, is_command, act_event}
-use Rattle.sv_recorder.specs.Legal.{single, start_answers}
-use Rattle.sv_recorder.specs.Legal.{command_answers, other_answers, answers_of, group_of, is_head}
-use Rattle.sv_recorder.specs.Legal.{is_control}
+use Rattle.sv_journal.specs.declared.journal.Kind.TheVariants as kinds
+use Rattle.sv_journal.specs.declared.journal.Origin.{Origin}
+use Rattle.sv_journal.specs.declared.journal.Origin.TheVariants.{Call, Sync, Reply, Overflow}
+use Rattle.sv_journal.specs.declared.journal.Origin.TheVariants.{Command}
+use Rattle.sv_journal.specs.Items.{is_start, is_stop, is_command, act_event}
+use Rattle.sv_journal.specs.Legal.{single, start_answers}
+use Rattle.sv_journal.specs.Legal.{command_answers, other_answers, answers_of, group_of, is_head}
+use Rattle.sv_journal.specs.Legal.{is_control}
 use Rattle.sv_need.specs.Weights.{Weights, plain_weight, weight, weight_of}
 use Rattle.sv_need.proofs.Replies.{few_weight, start_rest, few_start, few_command, most_replies}
 

@@ -6,13 +6,13 @@ use Rattle.std.proofs.lemmas.List.{reverse-append}
 use Rattle.std.proofs.lemmas.List.Concat.{flat_map-cons}
 use Rattle.std.proofs.lemmas.List.Sums.{sum_by-cons, sum_by-append, sum_by_push}
 use Rattle.sv_workload.specs.Load.{Load}
-use Rattle.sv_recorder.specs.declared.journal.Origin.{Origin}
-use Rattle.sv_recorder.specs.declared.journal.Origin.TheVariants.{Call, Sync, Reply, Overflow}
-use Rattle.sv_recorder.specs.declared.journal.Origin.TheVariants.{Command}
-use Rattle.sv_recorder.specs.declared.journal.Item.{Item}
-use Rattle.sv_recorder.specs.Items.{latest_first, is_overflow}
-use Rattle.sv_recorder.specs.Open.{AreGroupsWith}
-use Rattle.sv_recorder.specs.Legal.{origins_of, is_head, group_of}
+use Rattle.sv_journal.specs.declared.journal.Origin.{Origin}
+use Rattle.sv_journal.specs.declared.journal.Origin.TheVariants.{Call, Sync, Reply, Overflow}
+use Rattle.sv_journal.specs.declared.journal.Origin.TheVariants.{Command}
+use Rattle.sv_journal.specs.declared.journal.Item.{Item}
+use Rattle.sv_journal.specs.Items.{latest_first, is_overflow}
+use Rattle.sv_journal.specs.Open.{AreGroupsWith}
+use Rattle.sv_journal.specs.Legal.{origins_of, is_head, group_of}
 use Rattle.sv_need.specs.Weights.{Weights, weight, weight_of}
 use Rattle.sv_need.proofs.Groups.{head_most, group_weight}
 

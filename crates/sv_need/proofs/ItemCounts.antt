@@ -6,15 +6,15 @@ use Rattle.sv_workload.specs.declared.load.Act.{Act}
 use Rattle.sv_workload.specs.declared.load.Act.TheVariants as acts
 use Rattle.sv_workload.specs.Load.{Load}
 use Rattle.sv_workload.specs.Need.{need_items, replies_in, one_if, is_start_act}
-use Rattle.sv_recorder.specs.declared.journal.Kind.TheVariants as kinds
-use Rattle.sv_recorder.specs.declared.journal.Origin.{Origin}
-use Rattle.sv_recorder.specs.declared.journal.Origin.TheVariants.{Call, Sync, Reply, Overflow}
-use Rattle.sv_recorder.specs.declared.journal.Origin.TheVariants.{Command}
-use Rattle.sv_recorder.specs.declared.journal.Item.{Item}
-use Rattle.sv_recorder.specs.Items.{latest_first}
-use Rattle.sv_recorder.specs.Legal.{IsLegal, EachItem}
-use Rattle.sv_recorder.specs.Open.{IsOpen, IsDue}
-use Rattle.sv_recorder.proofs.Shared.{IsOpen-legal}
+use Rattle.sv_journal.specs.declared.journal.Kind.TheVariants as kinds
+use Rattle.sv_journal.specs.declared.journal.Origin.{Origin}
+use Rattle.sv_journal.specs.declared.journal.Origin.TheVariants.{Call, Sync, Reply, Overflow}
+use Rattle.sv_journal.specs.declared.journal.Origin.TheVariants.{Command}
+use Rattle.sv_journal.specs.declared.journal.Item.{Item}
+use Rattle.sv_journal.specs.Items.{latest_first}
+use Rattle.sv_journal.specs.Legal.{IsLegal, EachItem}
+use Rattle.sv_journal.specs.Open.{IsOpen, IsDue}
+use Rattle.sv_journal.proofs.Shared.{IsOpen-legal}
 use Rattle.sv_need.specs.Next.{MayCome}
 use Rattle.sv_need.specs.Weights.{item_weights, items_ahead}
 use Rattle.sv_need.proofs.Groups.{act_most}

@@ -11,3 +11,4 @@ pub mod Blocks
 pub mod ByteCounts
 pub mod Limits
 pub mod Rooms
+pub mod Ticks

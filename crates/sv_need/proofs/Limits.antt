@@ -10,9 +10,9 @@ use Rattle.sv_workload.specs.declared.load.Step.{Step}
 use Rattle.sv_workload.specs.Load.{Load}
 use Rattle.sv_workload.specs.Need.{over_steps, steps_in, starts_in, replies_in, act_bytes}
 use Rattle.sv_workload.specs.Need.{need_items, need_bytes, IsStepAct, IsWithinLimits}
-use Rattle.sv_recorder.specs.declared.journal.Item.{Item}
-use Rattle.sv_recorder.specs.Legal.{IsLegal}
-use Rattle.sv_recorder.specs.Stream.{stream_of}
+use Rattle.sv_journal.specs.declared.journal.Item.{Item}
+use Rattle.sv_journal.specs.Legal.{IsLegal}
+use Rattle.sv_journal.specs.Stream.{stream_of}
 use Rattle.sv_need.proofs.ItemCounts.{within_items}
 use Rattle.sv_need.proofs.ByteCounts.{within_bytes}
 

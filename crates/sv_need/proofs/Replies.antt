@@ -10,12 +10,12 @@ use Rattle.std.proofs.lemmas.List.Concat.{flat_map-cons}
 use Rattle.std.proofs.lemmas.List.FromFn.{length-enumerate_from}
 use Rattle.std.proofs.lemmas.List.Sums.{sum_by-cons}
 use Rattle.sv_workload.specs.Load.{Load}
-use Rattle.sv_recorder.specs.declared.journal.Kind.{Kind}
-use Rattle.sv_recorder.specs.declared.journal.Kind.TheVariants as kinds
-use Rattle.sv_recorder.specs.declared.journal.Origin.{Origin}
-use Rattle.sv_recorder.specs.declared.journal.Origin.TheVariants.{Reply}
-use Rattle.sv_recorder.specs.Legal.{replies_for, single, task_replies, init_replies}
-use Rattle.sv_recorder.specs.Legal.{command_answers}
+use Rattle.sv_journal.specs.declared.journal.Kind.{Kind}
+use Rattle.sv_journal.specs.declared.journal.Kind.TheVariants as kinds
+use Rattle.sv_journal.specs.declared.journal.Origin.{Origin}
+use Rattle.sv_journal.specs.declared.journal.Origin.TheVariants.{Reply}
+use Rattle.sv_journal.specs.Legal.{replies_for, single, task_replies, init_replies}
+use Rattle.sv_journal.specs.Legal.{command_answers}
 use Rattle.sv_need.specs.Weights.{Weights, weight, weight_of}
 
 -- the replies of a group other than a first TRACE_START

@@ -12,22 +12,22 @@ use Rattle.sv_workload.specs.declared.load.Act.TheVariants as acts
 use Rattle.sv_workload.specs.declared.load.Step.{Step}
 use Rattle.sv_workload.specs.Load.{Load, act_of, script_of}
 use Rattle.sv_workload.specs.Need.{over_steps}
-use Rattle.sv_recorder.specs.declared.journal.Origin.{Origin}
-use Rattle.sv_recorder.specs.declared.journal.Origin.TheVariants.{Call, Sync, Reply, Overflow}
-use Rattle.sv_recorder.specs.declared.journal.Origin.TheVariants.{Command}
-use Rattle.sv_recorder.specs.declared.journal.Item.{Item}
-use Rattle.sv_recorder.specs.Items.{is_call_of, is_command}
-use Rattle.sv_recorder.specs.Legal.{EachItem, IsNextItem, IsNextStep}
+use Rattle.sv_journal.specs.declared.journal.Origin.{Origin}
+use Rattle.sv_journal.specs.declared.journal.Origin.TheVariants.{Call, Sync, Reply, Overflow}
+use Rattle.sv_journal.specs.declared.journal.Origin.TheVariants.{Command}
+use Rattle.sv_journal.specs.declared.journal.Item.{Item}
+use Rattle.sv_journal.specs.Items.{is_call_of, is_command}
+use Rattle.sv_journal.specs.Legal.{EachItem, IsNextItem, IsNextStep}
 use Rattle.sv_need.specs.Weights.{Weights}
 use Rattle.sv_need.proofs.Groups.{act_most, head_most, group_most}
 
 -- the first so many steps of each script, summed
-abbrev spent : {S : Type 0} → (S → ℕ) → List (List S) → (ℕ → ℕ) → ℕ
+abbrev pub spent : {S : Type 0} → (S → ℕ) → List (List S) → (ℕ → ℕ) → ℕ
 spent f [] counts = 0
 spent f (script ∷ rest) counts = sum_by f (take (counts 0) script) + spent f rest
     (λ v. counts (suc v))
 
-spent-same : {S : Type 0} (f : S → ℕ) (scripts : List (List S)) (a b : ℕ → ℕ)
+pub spent-same : {S : Type 0} (f : S → ℕ) (scripts : List (List S)) (a b : ℕ → ℕ)
     → ((v : ℕ) → a v ≡ b v) → spent f scripts a ≡ spent f scripts b
 spent-same f [] a b same = refl
 spent-same f (script ∷ rest) a b same = omega (
@@ -36,7 +36,7 @@ spent-same f (script ∷ rest) a b same = omega (
   spent-same f rest (λ v. a (suc v)) (λ v. b (suc v)) (λ v. same (suc v)),
 )
 
-spent-most : {S : Type 0} (f : S → ℕ) (scripts : List (List S)) (counts : ℕ → ℕ)
+pub spent-most : {S : Type 0} (f : S → ℕ) (scripts : List (List S)) (counts : ℕ → ℕ)
     → spent f scripts counts ≤ sum_by (λ script. sum_by f script) scripts
 spent-most f [] counts = omega arith
 spent-most f (script ∷ rest) counts = omega (
@@ -48,7 +48,7 @@ spent-most f (script ∷ rest) counts = omega (
 )
 
 -- one step more of one writer
-spent-more : {S : Type 0} (f : S → ℕ) (d : S) (scripts : List (List S)) (writer : ℕ)
+pub spent-more : {S : Type 0} (f : S → ℕ) (d : S) (scripts : List (List S)) (writer : ℕ)
     (counts more : ℕ → ℕ) → counts writer < length (slice_index_or scripts writer [])
     → more writer ≡ counts writer + 1 → ((v : ℕ) → writer ≢ v → more v ≡ counts v)
     → spent f scripts more ≡ f (get_or (slice_index_or scripts writer []) (counts writer) d) + spent
@@ -71,7 +71,7 @@ spent-more f d (script ∷ rest) (suc writer) counts more below one same =
           (λ v other. same (suc v) (λ e. other (omega (arith, e)))),
     )
 
-abbrev calls_at : List Item → ℕ → ℕ
+abbrev pub calls_at : List Item → ℕ → ℕ
 calls_at earlier writer = count_by (λ i. is_call_of writer i.origin) earlier
 
 abbrev step_most : Weights → Load → Step → ℕ
@@ -82,11 +82,11 @@ abbrev charged : Weights → Load → (ℕ → ℕ) → ℕ → ℕ
 charged w load counts commands = spent (step_most w load) load.scripts counts + commands *
     group_most w load
 
-no_step : Step
+pub no_step : Step
 no_step = record { advance = 0; act = acts.Stop }
 
 -- what comes to an item by its origin
-abbrev one_call : Origin → ℕ → ℕ
+abbrev pub one_call : Origin → ℕ → ℕ
 one_call origin writer = cond (is_call_of writer origin) 1 0
 
 none-called : (w : Weights) (load : Load) (counts : ℕ → ℕ)

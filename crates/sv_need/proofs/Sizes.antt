@@ -9,19 +9,19 @@ use Rattle.std.proofs.lemmas.List.Sums.{sum_by-cons}
 use Rattle.sv_packet.specs.declared.event.Event.TheVariants.{Nop}
 use Rattle.sv_workload.specs.Load.{Load, act_of}
 use Rattle.sv_workload.specs.Need.{over_steps}
-use Rattle.sv_recorder.specs.declared.journal.Origin.{Origin}
-use Rattle.sv_recorder.specs.declared.journal.Origin.TheVariants.{Call, Sync, Reply, Overflow}
-use Rattle.sv_recorder.specs.declared.journal.Origin.TheVariants.{Command}
-use Rattle.sv_recorder.specs.declared.journal.Outcome.{Outcome}
-use Rattle.sv_recorder.specs.declared.journal.Outcome.TheVariants.{Handled}
-use Rattle.sv_recorder.specs.declared.journal.Item.{Item}
-use Rattle.sv_recorder.specs.Items.{latest_first, is_start, is_stop, is_overflow, is_command}
-use Rattle.sv_recorder.specs.Items.{is_packet, holds_packet, is_on, pending_at, is_after_overflow}
-use Rattle.sv_recorder.specs.Items.{before_overflow, act_event}
-use Rattle.sv_recorder.specs.Legal.{IsLegal, EachItem, IsNextItem, is_control, is_head, group_of}
-use Rattle.sv_recorder.specs.Open.{IsOpen, IsDue}
+use Rattle.sv_journal.specs.declared.journal.Origin.{Origin}
+use Rattle.sv_journal.specs.declared.journal.Origin.TheVariants.{Call, Sync, Reply, Overflow}
+use Rattle.sv_journal.specs.declared.journal.Origin.TheVariants.{Command}
+use Rattle.sv_journal.specs.declared.journal.Outcome.{Outcome}
+use Rattle.sv_journal.specs.declared.journal.Outcome.TheVariants.{Handled}
+use Rattle.sv_journal.specs.declared.journal.Item.{Item}
+use Rattle.sv_journal.specs.Items.{latest_first, is_start, is_stop, is_overflow, is_command}
+use Rattle.sv_journal.specs.Items.{is_packet, holds_packet, is_on, pending_at, is_after_overflow}
+use Rattle.sv_journal.specs.Items.{before_overflow, act_event}
+use Rattle.sv_journal.specs.Legal.{IsLegal, EachItem, IsNextItem, is_control, is_head, group_of}
+use Rattle.sv_journal.specs.Open.{IsOpen, IsDue}
 use Rattle.sv_need.specs.Next.{MayCome}
-use Rattle.sv_recorder.proofs.Shared.{outcome_at-control, IsOpen-legal, IsLegal-open}
+use Rattle.sv_journal.proofs.Shared.{outcome_at-control, IsOpen-legal, IsLegal-open}
 use Rattle.sv_need.specs.Weights.{Weights, reply_weight, plain_weight, weight, weight_of}
 use Rattle.sv_need.proofs.Groups.{act_most, group_most, group_weight}
 use Rattle.sv_need.proofs.Heads.{journal_weight, reverse_sum}

@@ -6,13 +6,13 @@ use Rattle.sv_packet.specs.declared.event.Event.{Event}
 use Rattle.sv_packet.specs.declared.event.Event.TheVariants.{Nop}
 use Rattle.sv_packet.specs.Spelling.{spelling_of}
 use Rattle.sv_workload.specs.Load.{Load, act_of}
-use Rattle.sv_recorder.specs.declared.journal.Kind.{Kind}
-use Rattle.sv_recorder.specs.declared.journal.Kind.TheVariants as kinds
-use Rattle.sv_recorder.specs.declared.journal.Origin.{Origin}
-use Rattle.sv_recorder.specs.declared.journal.Origin.TheVariants.{Call, Sync, Reply, Overflow}
-use Rattle.sv_recorder.specs.declared.journal.Origin.TheVariants.{Command}
-use Rattle.sv_recorder.specs.Items.{act_event}
-use Rattle.sv_recorder.specs.Legal.{is_control}
+use Rattle.sv_journal.specs.declared.journal.Kind.{Kind}
+use Rattle.sv_journal.specs.declared.journal.Kind.TheVariants as kinds
+use Rattle.sv_journal.specs.declared.journal.Origin.{Origin}
+use Rattle.sv_journal.specs.declared.journal.Origin.TheVariants.{Call, Sync, Reply, Overflow}
+use Rattle.sv_journal.specs.declared.journal.Origin.TheVariants.{Command}
+use Rattle.sv_journal.specs.Items.{act_event}
+use Rattle.sv_journal.specs.Legal.{is_control}
 
 -- of a start, a stop or a command, of a call by its event, of a sync, of TRACE_START and
 -- TRACE_STOP, of another reply

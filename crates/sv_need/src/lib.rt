@@ -7,4 +7,4 @@
 
 mod need;
 
-pub use need::{packet_room, room_ahead, within_need};
+pub use need::{packet_room, room_ahead, ticks_ahead, within_need};

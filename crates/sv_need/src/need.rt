@@ -1,14 +1,16 @@
-ghost use Rattle.std.specs.Prelude.{◌≡◌, ℕ, ◌+◌, ◌<◌, ◌≤◌, true, false, List, ◌∷◌, length};
+ghost use Rattle.std.specs.Prelude.{◌≡◌, ℕ, ◌+◌, ◌^◌, ◌<◌, ◌≤◌, true, false, List, ◌∷◌, length};
 ghost use Rattle.sv_packet.specs.declared.event.Event.TheVariants.{Overflow};
 ghost use Rattle.sv_packet.specs.Spelling.{spelling_of};
 ghost use Rattle.sv_workload.specs.Load.{Load};
 ghost use Rattle.sv_workload.specs.Need.{need_items, need_bytes, IsWithinLimits, HasShortTexts};
-ghost use Rattle.sv_recorder.specs.declared.journal.Item.{Item};
-ghost use Rattle.sv_recorder.specs.declared.journal.Origin.{Origin};
-ghost use Rattle.sv_recorder.specs.Legal.{IsLegal, is_control};
-ghost use Rattle.sv_recorder.specs.Open.{IsOpen, IsDue};
-ghost use Rattle.sv_recorder.specs.Stream.{stream_of};
-ghost use Rattle.sv_recorder.specs.Writes.{packet_block, is_call_or_reply};
+ghost use Rattle.sv_journal.specs.declared.journal.Item.{Item};
+ghost use Rattle.sv_journal.specs.declared.journal.Origin.{Origin};
+ghost use Rattle.sv_journal.specs.Clock.{clock_of};
+ghost use Rattle.sv_journal.specs.Items.{latest_first};
+ghost use Rattle.sv_journal.specs.Legal.{IsLegal, IsNextStep, is_control, ticks_of};
+ghost use Rattle.sv_journal.specs.Open.{IsOpen, IsDue};
+ghost use Rattle.sv_journal.specs.Stream.{stream_of};
+ghost use Rattle.sv_journal.specs.Packets.{packet_block, is_call_or_reply};
 ghost use Rattle.sv_need.specs.Weights.{weight, item_weights, byte_weights};
 ghost use Rattle.sv_need.specs.Weights.{items_ahead, bytes_ahead};
 ghost use Rattle.sv_need.specs.Next.{MayCome};
@@ -48,4 +50,11 @@ pub fn packet_room()
         is_call_or_reply origin ≡ true → is_control load origin ≡ false →
         length (packet_block load origin moment last) + 11 ≤ weight byte_weights load origin }
     ensures overflow { (count delta : ℕ) → length (spelling_of (Overflow count) delta) ≤ 11 }
+{}
+
+/// The law of ticks: the moment of the next step is at most 2^53, whatever the scripts.
+pub fn ticks_ahead()
+    ensures { (load : Load) → (items : List Item) → (owed : List Origin) → (next : Origin) →
+        IsOpen load items owed → IsNextStep load (latest_first items) next →
+        IsWithinLimits load → clock_of load items + ticks_of load next ≤ 2 ^ 53 }
 {}

@@ -1,8 +1,8 @@
 -- The books of the groups of a step.
 use Rattle.std.proofs.Common.{◌≡◌, ℕ, ◌+◌, ◌*◌, ◌<◌, Bool, true, false, not, ◌&&◌, List, []}
 use Rattle.std.proofs.Common.{◌∷◌, ◌++◌, length, drop, refl, sym, ap, ◌∙◌, subst, arith, replicate}
-use Rattle.std.proofs.Common.{vec_capacity, inr}
-use Rattle.std.specs.Prelude.{map, Some}
+use Rattle.std.proofs.Common.{vec_capacity, inr, append-nil}
+use Rattle.std.specs.Prelude.{Some}
 use Rattle.sv_ring.specs.declared.up_writer.UpWriter.{Ghosts}
 use Rattle.sv_workload.specs.declared.load.Act.{Act}
 use Rattle.sv_workload.specs.declared.load.Act.TheVariants as acts
@@ -11,27 +11,24 @@ use Rattle.sv_packet.specs.declared.event.Event.{Event}
 use Rattle.sv_workload.specs.declared.load.Step.{Step}
 use Rattle.sv_workload.specs.Load.{Load, act_of, step_of}
 use Rattle.sv_recorder.specs.declared.book.Book.{Book}
-use Rattle.sv_recorder.specs.declared.journal.Kind.{Kind}
-use Rattle.sv_recorder.specs.declared.journal.Kind.TheVariants as kinds
-use Rattle.sv_recorder.specs.declared.journal.Origin.{Origin}
-use Rattle.sv_recorder.specs.declared.journal.Origin.TheVariants.{Call, Sync, Reply}
-use Rattle.sv_recorder.specs.declared.journal.Outcome.TheVariants.{Handled}
-use Rattle.sv_recorder.specs.declared.journal.Item.{Item}
-use Rattle.sv_recorder.specs.Items.{latest_first, last_moment, is_stored, is_stop_reply}
-use Rattle.sv_recorder.specs.Items.{is_after_refused_overflow}
-use Rattle.sv_recorder.specs.Legal.{IsNextStep, ticks_of, is_control}
+use Rattle.sv_journal.specs.declared.journal.Kind.TheVariants as kinds
+use Rattle.sv_journal.specs.declared.journal.Origin.{Origin}
+use Rattle.sv_journal.specs.declared.journal.Origin.TheVariants.{Call, Sync, Reply}
+use Rattle.sv_journal.specs.declared.journal.Outcome.TheVariants.{Handled}
+use Rattle.sv_journal.specs.declared.journal.Item.{Item}
+use Rattle.sv_journal.specs.Items.{latest_first, last_moment, is_stored, is_stop_reply}
+use Rattle.sv_journal.specs.Items.{is_after_refused_overflow}
+use Rattle.sv_journal.specs.Legal.{IsNextStep, ticks_of, is_control, start_answers}
 use Rattle.sv_recorder.specs.Kept.{Keeps}
-use Rattle.sv_recorder.specs.Plain.{IsPlain}
-use Rattle.sv_recorder.specs.Clock.{clock_of, is_start_kind, reply_of}
-use Rattle.sv_recorder.specs.Formed.{reply_bytes}
-use Rattle.sv_recorder.specs.Replies.{AreReplied}
+use Rattle.sv_journal.specs.Clock.{clock_of}
+use Rattle.sv_recorder.specs.Replies.{Gives}
 use Rattle.sv_recorder.specs.Writes.{Writes, MovesBy, made, outcome_if, IsPacketHere}
 use Rattle.sv_recorder.specs.Book.{Holds, HoldsAs, Stays, Goes}
 use Rattle.sv_recorder.proofs.Entries.{stored_length}
 use Rattle.sv_recorder.proofs.Moves.{write-moved}
-use Rattle.sv_recorder.proofs.Steps.{latest_first-push, last_moment-other}
-use Rattle.sv_recorder.proofs.Goes.{goes-then, clock-goes}
-use Rattle.sv_recorder.proofs.Groups.{handled, synced, reply_here, no_stop, start_owes, stop_owes}
+use Rattle.sv_journal.proofs.Shared.{latest_first-push, last_moment-other}
+use Rattle.sv_recorder.proofs.Goes.{clock-goes}
+use Rattle.sv_recorder.proofs.Groups.{handled, synced, reply_here, start_owes, stop_owes}
 use Rattle.sv_recorder.proofs.Groups.{event_owes}
 
 -- the recorder is switched on, and the rest is as before
@@ -112,74 +109,33 @@ module _ {U : Type 0} {u : Ghosts U} where
       let last : new.last ≡ old.last = written.last in
       rw (load, new_on, pending, last) kept
 
-  -- one more reply
-  pub replied-more : (kinds : List Kind) (done : ℕ) (kind : Kind) (old mid new : Book U u)
-      → AreReplied kinds done old mid → done < length kinds → drop done kinds ≡ kind
-      ∷ drop (done + 1) kinds → is_start_kind kind ≡ true
-      → ((owed rest : List Origin) → Holds mid owed
-      → IsPacketHere mid.load.now mid.journal.items owed (Reply kind 0) mid.moment rest
-      → HoldsAs (mid.on && not (is_stop_reply (Reply kind 0))) new rest)
-      → Goes [] 2 reply_bytes mid new → new.on ≡ mid.on
-      → AreReplied kinds (done + 1) old new
-  replied-more kinds done kind old mid new before within next start kept goes on = record {
-    kept = λ rest k clock.
-        let so_far : Holds mid (map reply_of (kind ∷ drop (done + 1) kinds) ++ rest) =
-        subst (λ (ks : List Kind). Holds mid (map reply_of ks ++ rest)) next
-        (before.kept rest k clock) in
-        let clocked : mid.moment ≡ clock_of mid.load.now mid.journal.items =
-        before.goes.moment ∙ clock ∙ sym (clock-goes old mid [] (2 * done) (reply_bytes * done)
-        before.goes ∙ (let e : clock_of old.load.now old.journal.items + 0 ≡ clock_of
-        old.load.now old.journal.items = omega arith in e)) in
-        let here = reply_here mid.load.now mid.journal.items kind mid.moment
-        (map reply_of (drop (done + 1) kinds) ++ rest) clocked in
-        let told = kept (reply_of kind ∷ (map reply_of (drop (done + 1) kinds) ++ rest))
-        (map reply_of (drop (done + 1) kinds) ++ rest) so_far here in
-        let still_on : (mid.on && not (is_stop_reply (Reply kind 0))) ≡ new.on =
-        ap (λ (b : Bool). b && not (is_stop_reply (Reply kind 0))) before.on
-        ∙ ap not (no_stop kind start) ∙ sym (on ∙ before.on) in
-        subst (λ (b : Bool). HoldsAs b new (map reply_of (drop (done + 1) kinds) ++ rest)) still_on
-        told;
-    goes =
-        let all = goes-then old mid new [] [] (2 * done) 2 (reply_bytes * done) reply_bytes
-        before.goes goes in
-        let two : 2 * done + 2 ≡ 2 * (done + 1) = omega arith in
-        let bytes : reply_bytes * done + reply_bytes ≡ reply_bytes * (done + 1) = omega arith in
-        rw (two, bytes) at all;
-    on = on ∙ before.on;
-  }
-
   -- a start
-  pub start-holds : (old noted opened synced_ new : Book U u) (writer step : ℕ)
+  pub start-holds : (old noted opened new : Book U u) (writer step : ℕ)
       → Stays old noted → noted.up ≡ old.up → SwitchesOn noted opened
       → noted.journal.items ≡ old.journal.items ++ made (Call writer step) old.moment
       (u.freed old.up) Handled ∷ []
-      → act_of old.load.now writer step ≡ Some acts.Start → IsPlain old.load.now
-      → ((rest : List Origin) → Holds opened (Sync ∷ rest)
-      → opened.moment ≡ clock_of opened.load.now opened.journal.items → Holds synced_ rest)
-      → Goes [] 1 10 opened synced_
-      → ((rest : List Origin) → Holds synced_ (map reply_of (kinds.TraceStart ∷ kinds.Init
-      ∷ kinds.Systime ∷ kinds.ModuleCount ∷ []) ++ rest)
-      → synced_.moment ≡ clock_of synced_.load.now synced_.journal.items → Holds new rest)
+      → act_of old.load.now writer step ≡ Some acts.Start
+      → Gives (start_answers opened.load.now) opened new
       → Goes (Call writer step ∷ []) 1 0 old opened
       → Holds old [] → IsNextStep old.load.now (latest_first old.journal.items) (Call writer step)
       → old.moment ≡ ticks_of old.load.now (Call writer step) + clock_of old.load.now
       old.journal.items
       → Holds new []
-  start-holds old noted opened synced_ new writer step changed up on item act plain sync_kept
-      sync_goes replies_kept head_goes k next clock =
-      let owes = start_owes old.load.now writer step plain act in
-      let control : is_control old.load.now (Call writer step) ≡ true = rw owes.1 refl in
-      let kept = handled old.load.now old.journal.items (u.sent old.up) (u.freed old.up) old.on
+  start-holds old noted opened new writer step changed up on item act gives head_goes k next clock =
+      let load = old.load.now in
+      let owes = start_owes load writer step act in
+      let control : is_control load (Call writer step) ≡ true = rw owes.1 refl in
+      let kept = handled load old.journal.items (u.sent old.up) (u.freed old.up) old.on
       old.pending old.last writer step old.moment k control next clock in
-      let kept2 : Keeps old.load.now noted.journal.items (Sync
-      ∷ (map reply_of (kinds.TraceStart ∷ kinds.Init ∷ kinds.Systime ∷ kinds.ModuleCount ∷ [])
-      ++ [])) (u.sent old.up) (u.freed old.up) true old.pending old.last =
-      subst (λ (is : List Item). Keeps old.load.now is (Sync
-      ∷ (map reply_of (kinds.TraceStart ∷ kinds.Init ∷ kinds.Systime ∷ kinds.ModuleCount ∷ [])
-      ++ [])) (u.sent old.up) (u.freed old.up) true old.pending old.last) (sym item)
+      let kept2 : Keeps load noted.journal.items (start_answers load) (u.sent old.up)
+      (u.freed old.up) true old.pending old.last =
+      subst (λ (is : List Item). Keeps load is (start_answers load) (u.sent old.up)
+      (u.freed old.up) true old.pending old.last) (sym item)
       (rw (owes.0, owes.1) at kept) in
-      let held : Holds opened (Sync ∷ (map reply_of (kinds.TraceStart ∷ kinds.Init ∷ kinds.Systime
-      ∷ kinds.ModuleCount ∷ []) ++ [])) =
+      let load_is : opened.load.now ≡ load = on.load ∙ changed.load in
+      let all : start_answers opened.load.now ++ [] ≡ start_answers load =
+      append-nil (start_answers opened.load.now) ∙ ap start_answers load_is in
+      let held : Holds opened (start_answers load) =
       rw (
         on.load,
         on.journal,
@@ -194,15 +150,8 @@ module _ {U : Type 0} {u : Ghosts U} where
       ) kept2 in
       let clock1 : opened.moment ≡ clock_of opened.load.now opened.journal.items =
       head_goes.moment ∙ clock ∙ sym (clock-goes old opened (Call writer step ∷ []) 1 0 head_goes
-      ∙ one_head (clock_of old.load.now old.journal.items)
-      (ticks_of old.load.now (Call writer step))) in
-      let held2 = sync_kept (map reply_of (kinds.TraceStart ∷ kinds.Init ∷ kinds.Systime
-      ∷ kinds.ModuleCount ∷ []) ++ []) held clock1 in
-      let clock2 : synced_.moment ≡ clock_of synced_.load.now synced_.journal.items =
-      sync_goes.moment ∙ clock1 ∙ sym (clock-goes opened synced_ [] 1 10 sync_goes
-      ∙ (let e : clock_of opened.load.now opened.journal.items + 0 ≡ clock_of opened.load.now
-      opened.journal.items = omega arith in e)) in
-      replies_kept [] held2 clock2
+      ∙ one_head (clock_of load old.journal.items) (ticks_of load (Call writer step))) in
+      gives.kept [] (subst (Holds opened) (sym all) held) clock1
     where
       one_head : (n m : ℕ) → n + (0 + m) ≡ m + n
       one_head n m = omega arith
@@ -227,19 +176,19 @@ module _ {U : Type 0} {u : Ghosts U} where
       let control : is_control old.load.now (Call writer step) ≡ true = rw (owes.1, owes.2) refl in
       let kept = handled old.load.now old.journal.items (u.sent old.up) (u.freed old.up) old.on
       old.pending old.last writer step old.moment k control next clock in
-      let kept2 : Keeps old.load.now noted.journal.items (reply_of kinds.TraceStop ∷ [])
+      let kept2 : Keeps old.load.now noted.journal.items (Reply kinds.TraceStop 0 ∷ [])
       (u.sent old.up) (u.freed old.up) old.on old.pending old.last =
-      subst (λ (is : List Item). Keeps old.load.now is (reply_of kinds.TraceStop ∷ [])
+      subst (λ (is : List Item). Keeps old.load.now is (Reply kinds.TraceStop 0 ∷ [])
       (u.sent old.up) (u.freed old.up) old.on old.pending old.last) (sym item)
       (rw (owes.0, owes.1) at kept) in
-      let held : Holds noted (reply_of kinds.TraceStop ∷ []) =
+      let held : Holds noted (Reply kinds.TraceStop 0 ∷ []) =
       rw (changed.load, up, changed.on, changed.pending, changed.last) kept2 in
       let clock1 : noted.moment ≡ clock_of noted.load.now noted.journal.items =
       head_goes.moment ∙ clock ∙ sym (clock-goes old noted (Call writer step ∷ []) 1 0 head_goes
       ∙ one_head (clock_of old.load.now old.journal.items)
       (ticks_of old.load.now (Call writer step))) in
-      let told = packet_kept (reply_of kinds.TraceStop ∷ []) [] held
-      (reply_here noted.load.now noted.journal.items kinds.TraceStop noted.moment [] clock1) in
+      let told = packet_kept (Reply kinds.TraceStop 0 ∷ []) [] held
+      (reply_here noted.load.now noted.journal.items kinds.TraceStop 0 noted.moment [] clock1) in
       subst (λ (b : Bool). HoldsAs b packed []) (none noted.on) told
     where
       one_head : (n m : ℕ) → n + (0 + m) ≡ m + n

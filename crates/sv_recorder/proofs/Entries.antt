@@ -3,24 +3,25 @@ use Rattle.std.proofs.Common.{◌≡◌, ℕ, ◌+◌, ◌≤◌, Bool, true, fa
 use Rattle.std.proofs.Common.{◌++◌, length, refl, sym, ap, ◌∙◌, subst, arith, append_assoc}
 use Rattle.std.specs.Prelude.{filter, if◌then◌else◌}
 use Rattle.std.proofs.lemmas.List.{length-append}
-use Rattle.sv_workload.specs.declared.load.Act.TheVariants as acts
-use Rattle.sv_workload.specs.Load.{Load, act_of}
-use Rattle.sv_workload.specs.Need.{act_bytes}
-use Rattle.std.specs.Option.{option_map_or}
-use Rattle.sv_recorder.specs.declared.journal.Kind.TheVariants as kinds
-use Rattle.sv_recorder.specs.declared.journal.Origin.{Origin}
-use Rattle.sv_recorder.specs.declared.journal.Origin.TheVariants.{Call, Sync, Reply, Overflow}
-use Rattle.sv_recorder.specs.declared.journal.Origin.TheVariants.{Command}
-use Rattle.sv_recorder.specs.declared.journal.Outcome.{Outcome}
-use Rattle.sv_recorder.specs.declared.journal.Item.{Item}
+use Rattle.sv_workload.specs.Load.{Load}
+use Rattle.sv_workload.specs.Need.{HasShortTexts}
+use Rattle.sv_journal.specs.declared.journal.Origin.{Origin}
+use Rattle.sv_journal.specs.declared.journal.Origin.TheVariants.{Call, Sync, Reply, Overflow}
+use Rattle.sv_journal.specs.declared.journal.Origin.TheVariants.{Command}
+use Rattle.sv_journal.specs.declared.journal.Outcome.{Outcome}
+use Rattle.sv_journal.specs.declared.journal.Item.{Item}
 use Rattle.sv_recorder.specs.Answer.{Gains}
-use Rattle.sv_recorder.specs.Items.{last_moment, is_stored}
-use Rattle.sv_recorder.specs.Items.{is_sync}
-use Rattle.sv_recorder.specs.Legal.{is_head, origins_of}
-use Rattle.sv_recorder.specs.Writes.{made, outcome_if}
-use Rattle.sv_recorder.specs.Formed.{IsFormed, packet_bytes, block_bytes}
+use Rattle.sv_journal.specs.Items.{last_moment, is_stored}
+use Rattle.sv_journal.specs.Items.{is_sync}
+use Rattle.sv_journal.specs.Legal.{is_head, origins_of}
+use Rattle.sv_journal.specs.Legal.{is_control}
+use Rattle.sv_journal.specs.Packets.{packet_block, is_call_or_reply}
+use Rattle.sv_need.specs.Weights.{weight, byte_weights}
+use Rattle.sv_need.proofs.Shared.{packet_bytes_room}
+use Rattle.sv_recorder.specs.Writes.{made, outcome_if, HasPacket}
+use Rattle.sv_recorder.specs.Formed.{packet_bytes, block_bytes}
 use Rattle.sv_recorder.specs.Book.{head_if}
-use Rattle.sv_recorder.proofs.Steps.{last_moment-stored, last_moment-other}
+use Rattle.sv_journal.proofs.Shared.{last_moment-stored, last_moment-other}
 
 -- the heads among an overflow and an item after it
 pub headed_after : (origin : Origin) (count moment freed freed_now : ℕ) (told outcome : Outcome)
@@ -32,25 +33,33 @@ headed_after (Reply kind index) count moment freed freed_now told outcome = refl
 headed_after (Overflow more) count moment freed freed_now told outcome = refl
 headed_after (Command byte param) count moment freed freed_now told outcome = refl
 
+-- a packet's bytes are what it weighs
+pub packet_weight : (load : Load) (origin : Origin) → is_call_or_reply origin ≡ true
+    → packet_bytes load origin ≡ weight byte_weights load origin
+packet_weight load (Call writer step) telling = refl
+packet_weight load (Reply kind index) telling = refl
+packet_weight load Sync telling = absurd cc
+packet_weight load (Overflow count) telling = absurd cc
+packet_weight load (Command byte param) telling = absurd cc
+
+-- a packet is no longer than it may be
+pub block_short : (load : Load) (origin : Origin) (moment last : ℕ) → HasShortTexts load
+    → is_call_or_reply origin ≡ true → is_control load origin ≡ false
+    → length (packet_block load origin moment last) ≤ block_bytes load origin
+block_short load origin moment last short telling control = omega (
+  arith,
+  packet_weight load origin telling,
+  packet_bytes_room load origin moment last short telling control,
+)
+
 -- an overflow has its place in what a packet may have
-pub bytes_after : (load : Load) (origin : Origin) → IsFormed load origin
+pub bytes_after : (load : Load) (origin : Origin) → HasShortTexts load → HasPacket load origin
     → 11 + block_bytes load origin ≡ packet_bytes load origin
-bytes_after load (Call writer step) (event, is, can) =
-    let bytes : option_map_or act_bytes (act_of load writer step) 0 ≡ act_bytes (acts.Event event) =
-    ap (λ act. option_map_or act_bytes act 0) is in
-    omega (arith, bytes)
-bytes_after load (Overflow count) formed = refl
-bytes_after load (Reply kinds.TraceStart index) formed = refl
-bytes_after load (Reply kinds.Init index) formed = refl
-bytes_after load (Reply kinds.Systime index) formed = refl
-bytes_after load (Reply kinds.ModuleCount index) formed = refl
-bytes_after load (Reply kinds.TraceStop index) formed = refl
-bytes_after load (Reply kinds.Line index) formed = absurd formed
-bytes_after load (Reply kinds.Task index) formed = absurd formed
-bytes_after load (Reply kinds.Stack index) formed = absurd formed
-bytes_after load (Reply kinds.Module index) formed = absurd formed
-bytes_after load Sync formed = absurd formed
-bytes_after load (Command byte param) formed = absurd formed
+bytes_after load origin short packet = omega (
+  arith,
+  packet_weight load origin packet.telling,
+  packet_bytes_room load origin 0 0 short packet.telling packet.control,
+)
 
 -- a block is as long as the form says
 pub as_long : (slice form : List ℕ) (most : ℕ) → slice ≡ form → length form ≤ most

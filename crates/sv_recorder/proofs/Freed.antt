@@ -5,17 +5,18 @@ use Rattle.std.specs.Prelude.{All, IsTrue, if◌then◌else◌}
 use Rattle.std.proofs.lemmas.List.Elements.{All-nil, All-cons}
 use Rattle.sv_ring.specs.Ring.{Way, Still, way_after, room_of, Moves}
 use Rattle.sv_workload.specs.Load.{Load}
-use Rattle.sv_recorder.specs.declared.journal.Origin.{Origin}
-use Rattle.sv_recorder.specs.declared.journal.Origin.TheVariants.{Call, Sync, Reply, Overflow}
-use Rattle.sv_recorder.specs.declared.journal.Origin.TheVariants.{Command}
-use Rattle.sv_recorder.specs.declared.journal.Outcome.TheVariants.{Refused, Ignored}
-use Rattle.sv_recorder.specs.declared.journal.Item.{Item}
-use Rattle.sv_recorder.specs.Items.{latest_first, is_stored, is_written, is_after_refused_overflow}
-use Rattle.sv_recorder.specs.Items.{block_of, stream_before, room_at}
-use Rattle.sv_recorder.specs.Stream.{stream_of}
+use Rattle.sv_journal.specs.declared.journal.Origin.{Origin}
+use Rattle.sv_journal.specs.declared.journal.Origin.TheVariants.{Call, Sync, Reply, Overflow}
+use Rattle.sv_journal.specs.declared.journal.Origin.TheVariants.{Command}
+use Rattle.sv_journal.specs.declared.journal.Outcome.TheVariants.{Refused, Ignored}
+use Rattle.sv_journal.specs.declared.journal.Item.{Item}
+use Rattle.sv_journal.specs.Items.{latest_first, is_stored, is_written, is_after_refused_overflow}
+use Rattle.sv_journal.specs.Items.{block_of, stream_before, room_at}
+use Rattle.sv_journal.specs.Stream.{stream_of}
 use Rattle.sv_recorder.specs.Freed.{wrote_if, way_left, AreFreed}
-use Rattle.sv_recorder.specs.Writes.{made, outcome_if, is_call_or_reply}
-use Rattle.sv_recorder.proofs.Steps.{latest_first-push, stream_of-push}
+use Rattle.sv_journal.specs.Packets.{is_call_or_reply}
+use Rattle.sv_recorder.specs.Writes.{made, outcome_if}
+use Rattle.sv_journal.proofs.Shared.{latest_first-push, stream_of-push}
 
 -- over some items, and then over those after them
 pub freed-append : (load : Load) (items xs ys : List Item) (way mid last : Way)

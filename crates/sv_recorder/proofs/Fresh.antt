@@ -1,16 +1,13 @@
 -- A recorder that has recorded nothing.
-use Rattle.std.proofs.Common.{◌≡◌, ℕ, ◌<◌, ◌≤◌, ◌^◌, length, false, List, [], refl, sym, subst}
-use Rattle.std.proofs.Common.{arith}
-use Rattle.std.proofs.lemmas.List.{nil_from_length}
+use Rattle.std.proofs.Common.{◌≡◌, ℕ, zero, suc, ◌≤◌, false, List, [], ◌∷◌, get_or, replicate}
+use Rattle.std.proofs.Common.{refl, sym, subst, arith}
 use Rattle.sv_workload.specs.Grammar.{SaysNothingOfLater}
-use Rattle.sv_workload.specs.Load.{Load, script_of}
+use Rattle.sv_workload.specs.Load.{Load}
 use Rattle.sv_workload.specs.Need.{IsWithinLimits, need_items, need_bytes}
-use Rattle.sv_recorder.specs.declared.journal.Item.{Item}
-use Rattle.sv_recorder.specs.Needs.{items_for, bytes_for, ticks_for}
+use Rattle.sv_journal.specs.declared.journal.Item.{Item}
 use Rattle.sv_recorder.specs.Plain.{IsPlain}
 use Rattle.sv_recorder.specs.Kept.{Keeps}
 use Rattle.sv_recorder.specs.Recording.{IsRecorder}
-use Rattle.sv_recorder.proofs.Needs.{items_needed, bytes_needed, ticks_needed}
 
 keeps_nothing : (load : Load) → Keeps load [] [] [] 0 false 0 0
 keeps_nothing load = record {
@@ -23,45 +20,34 @@ keeps_nothing load = record {
   freed_stored = omega arith;
 }
 
-nothing : (load : Load) (limit capacity : ℕ) → IsPlain load → IsWithinLimits load
-    → need_bytes load ≤ limit → need_items load < 3400000 → need_items load ≤ capacity
-    → IsRecorder load [] [] 0 limit false 0 0 0 0 capacity
-nothing load limit capacity plain limits bytes few room =
-    let items : items_for (script_of load 0) ≡ need_items load = items_needed load plain in
-    let short : bytes_for (script_of load 0) ≤ need_bytes load = bytes_needed load plain in
-    record {
-      limits = limits;
-      held = keeps_nothing load;
-      clock = refl;
-      place_is = refl;
-      within = omega arith;
-      room = omega (arith, items, room);
-      few = omega (arith, items, few);
-      bytes = omega (arith, short, bytes);
-      ticks = let t : ticks_for (script_of load 0) ≤ 2 ^ 60 =
-          ticks_needed load plain limits in omega (arith, t);
-    }
+all_zero : (d n k : ℕ) → get_or (replicate n d) k d ≡ d
+all_zero d zero k = refl
+all_zero d (suc n) zero = refl
+all_zero d (suc n) (suc k) = all_zero d n k
+
+nothing : (load : Load) (limit capacity : ℕ) → IsWithinLimits load → need_bytes load ≤ limit → need_items load ≤ capacity
+    → IsRecorder load [] [] 0 limit false 0 0 0 (replicate 16 0) capacity
+nothing load limit capacity limits bytes room = record {
+  limits = limits;
+  held = keeps_nothing load;
+  clock = refl;
+  writers = refl;
+  places_are = λ writer within. all_zero 0 16 writer;
+  room = room;
+  bytes = bytes;
+}
 
 pub fresh : (load : Load) (items : List Item) (sent : List ℕ) (freed limit capacity : ℕ)
-    → IsPlain load → IsWithinLimits load → items ≡ [] → sent ≡ [] → freed ≡ 0
-    → need_bytes load ≤ limit → need_items load < 3400000 → need_items load ≤ capacity
-    → IsRecorder load items sent freed limit false 0 0 0 0 capacity
-fresh load items sent freed limit capacity plain limits items_is sent_is freed_is bytes few room =
-    subst (λ (i : List Item). IsRecorder load i sent freed limit false 0 0 0 0 capacity)
-    (sym items_is)
-    (subst (λ (s : List ℕ). IsRecorder load [] s freed limit false 0 0 0 0 capacity) (sym sent_is)
-    (subst (λ (n : ℕ). IsRecorder load [] [] n limit false 0 0 0 0 capacity) (sym freed_is)
-    (nothing load limit capacity plain limits bytes few room)))
+    → IsWithinLimits load → items ≡ [] → sent ≡ [] → freed ≡ 0
+    → need_bytes load ≤ limit → need_items load ≤ capacity
+    → IsRecorder load items sent freed limit false 0 0 0 (replicate 16 0) capacity
+fresh load items sent freed limit capacity limits items_is sent_is freed_is bytes room =
+    rw (items_is, sent_is, freed_is) (nothing load limit capacity limits bytes room)
 
--- a workload of one writer is plain, where it has no task and nothing that only words of later
--- would say
-pub plain_of : (load : Load) → SaysNothingOfLater load → length load.scripts ≡ 1
-    → length load.tasks ≡ 0 → IsPlain load
-plain_of load later one none = record {
+-- a workload is plain where it has nothing that only words of later would say
+pub plain_of : (load : Load) → SaysNothingOfLater load → IsPlain load
+plain_of load later = record {
   timed = later.timed;
-  lines = later.lines;
-  tasks = nil_from_length load.tasks none;
   modules = later.modules;
   commands = later.commands;
-  writer = one;
 }

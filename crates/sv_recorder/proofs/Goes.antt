@@ -8,21 +8,21 @@ use Rattle.std.proofs.lemmas.List.Sums.{sum_by-cons}
 use Rattle.sv_ring.specs.declared.up_writer.UpWriter.{Ghosts}
 use Rattle.sv_workload.specs.Load.{Load}
 use Rattle.sv_recorder.specs.declared.book.Book.{Book}
-use Rattle.sv_recorder.specs.declared.journal.Origin.{Origin}
-use Rattle.sv_recorder.specs.declared.journal.Origin.TheVariants.{Call, Sync, Reply, Overflow}
-use Rattle.sv_recorder.specs.declared.journal.Origin.TheVariants.{Command}
-use Rattle.sv_recorder.specs.declared.journal.Outcome.{Outcome}
-use Rattle.sv_recorder.specs.declared.journal.Item.{Item}
+use Rattle.sv_journal.specs.declared.journal.Origin.{Origin}
+use Rattle.sv_journal.specs.declared.journal.Origin.TheVariants.{Call, Sync, Reply, Overflow}
+use Rattle.sv_journal.specs.declared.journal.Origin.TheVariants.{Command}
+use Rattle.sv_journal.specs.declared.journal.Outcome.{Outcome}
+use Rattle.sv_journal.specs.declared.journal.Item.{Item}
 use Rattle.sv_recorder.specs.Freed.{AreFreed}
-use Rattle.sv_recorder.specs.Items.{latest_first, last_moment, is_call_of, is_overflow, is_stored}
-use Rattle.sv_recorder.specs.Items.{is_refused, is_sync, is_written, is_after_refused_overflow}
-use Rattle.sv_recorder.specs.Legal.{is_head, origins_of, ticks_of}
+use Rattle.sv_journal.specs.Items.{latest_first, last_moment, is_call_of, is_overflow, is_stored}
+use Rattle.sv_journal.specs.Items.{is_refused, is_sync, is_written, is_after_refused_overflow}
+use Rattle.sv_journal.specs.Legal.{is_head, origins_of, ticks_of}
 use Rattle.sv_recorder.specs.Book.{Goes, Stays, head_if}
-use Rattle.sv_recorder.specs.Stream.{stream_of}
-use Rattle.sv_recorder.specs.Clock.{clock_of}
+use Rattle.sv_journal.specs.Stream.{stream_of}
+use Rattle.sv_journal.specs.Clock.{clock_of}
 use Rattle.sv_recorder.specs.Writes.{made}
 use Rattle.sv_recorder.proofs.Freed.{freed-append, unwritten-stream, unwritten-freed}
-use Rattle.sv_recorder.proofs.Steps.{latest_first-push, last_moment-other}
+use Rattle.sv_journal.proofs.Shared.{latest_first-push, last_moment-other}
 
 -- the heads among some origins
 abbrev heads_in : List Origin → List Origin

@@ -10,23 +10,23 @@ use Rattle.sv_workload.specs.declared.load.Act.TheVariants as acts
 use Rattle.sv_workload.specs.Load.{Load, act_of}
 use Rattle.sv_workload.specs.Need.{is_start_act, is_stop_act}
 use Rattle.std.specs.Option.{option_map_or}
-use Rattle.sv_recorder.specs.declared.journal.Kind.{Kind}
-use Rattle.sv_recorder.specs.declared.journal.Kind.TheVariants as kinds
-use Rattle.sv_recorder.specs.declared.journal.Origin.{Origin}
-use Rattle.sv_recorder.specs.declared.journal.Origin.TheVariants.{Call, Sync}
-use Rattle.sv_recorder.specs.declared.journal.Outcome.TheVariants.{Stored, Refused, Handled}
-use Rattle.sv_recorder.specs.declared.journal.Item.{Item}
-use Rattle.sv_recorder.specs.Items.{latest_first, is_start, is_stop, is_stop_reply, stored_before}
-use Rattle.sv_recorder.specs.Items.{room_at}
-use Rattle.sv_recorder.specs.Legal.{IsNextStep, ticks_of, answers_of, is_control, write_outcome}
-use Rattle.sv_recorder.specs.Legal.{outcome_at}
+use Rattle.sv_journal.specs.declared.journal.Kind.{Kind}
+use Rattle.sv_journal.specs.declared.journal.Kind.TheVariants as kinds
+use Rattle.sv_journal.specs.declared.journal.Origin.{Origin}
+use Rattle.sv_journal.specs.declared.journal.Origin.TheVariants.{Call, Sync, Reply}
+use Rattle.sv_journal.specs.declared.journal.Outcome.TheVariants.{Stored, Refused, Handled}
+use Rattle.sv_journal.specs.declared.journal.Item.{Item}
+use Rattle.sv_journal.specs.Items.{latest_first, is_start, is_stop, is_stop_reply, stored_before}
+use Rattle.sv_journal.specs.Items.{room_at}
+use Rattle.sv_journal.specs.Legal.{IsNextStep, ticks_of, answers_of, is_control, write_outcome}
+use Rattle.sv_journal.specs.Legal.{outcome_at, start_answers, group_of}
+use Rattle.sv_need.specs.Weights.{weight, items_ahead, bytes_ahead, item_weights, byte_weights}
+use Rattle.sv_need.proofs.Shared.{packet_items}
 use Rattle.sv_recorder.specs.Kept.{Keeps}
-use Rattle.sv_recorder.specs.Plain.{IsPlain}
-use Rattle.sv_recorder.specs.Clock.{clock_of, is_start_kind, reply_of}
-use Rattle.sv_recorder.specs.Formed.{IsFormed, packet_bytes, reply_bytes}
+use Rattle.sv_journal.specs.Clock.{clock_of}
 use Rattle.sv_recorder.specs.Writes.{Writes, made, outcome_if, IsPacketHere}
-use Rattle.sv_recorder.proofs.Steps.{outcome_at-control, outcome_at-write}
-use Rattle.sv_recorder.proofs.Next.{after_refused-fresh}
+use Rattle.sv_journal.proofs.Shared.{outcome_at-control, outcome_at-write}
+use Rattle.sv_journal.proofs.Shared.{after_refused-fresh}
 use Rattle.sv_recorder.proofs.Items.{Comes, keeps-handled, keeps-sync, added}
 use Rattle.sv_recorder.proofs.Packets.{few_more, turned}
 
@@ -106,10 +106,11 @@ synced load items after rest sent now freed freed_now pending last moment stored
     by false = refl
 
 -- a reply has its place where it is owed
-pub reply_here : (load : Load) (items : List Item) (kind : Kind) (moment : ℕ) (rest : List Origin)
-    → moment ≡ clock_of load items → IsPacketHere load items (reply_of kind ∷ rest) (reply_of kind)
-    moment rest
-reply_here load items kind moment rest clock = record {
+pub reply_here : (load : Load) (items : List Item) (kind : Kind) (index moment : ℕ)
+    (rest : List Origin)
+    → moment ≡ clock_of load items → IsPacketHere load items (Reply kind index ∷ rest)
+    (Reply kind index) moment rest
+reply_here load items kind index moment rest clock = record {
   telling = refl;
   control = refl;
   due = inl (refl, refl);
@@ -117,43 +118,17 @@ reply_here load items kind moment rest clock = record {
   ticks = let e : moment ≡ 0 + clock_of load items = omega (arith, clock) in e;
 }
 
-pub no_stop : (kind : Kind) → is_start_kind kind ≡ true → is_stop_reply (reply_of kind) ≡ false
-no_stop kinds.TraceStart is = refl
-no_stop kinds.Init is = refl
-no_stop kinds.Line is = absurd cc
-no_stop kinds.Systime is = refl
-no_stop kinds.Task is = absurd cc
-no_stop kinds.Stack is = absurd cc
-no_stop kinds.ModuleCount is = refl
-no_stop kinds.Module is = absurd cc
-no_stop kinds.TraceStop is = absurd cc
-
-pub start_formed : (load : Load) (kind : Kind) → is_start_kind kind ≡ true
-    → IsFormed load (reply_of kind) × (packet_bytes load (reply_of kind) ≡ reply_bytes)
-start_formed load kinds.TraceStart is = (tt, refl)
-start_formed load kinds.Init is = (tt, refl)
-start_formed load kinds.Line is = absurd cc
-start_formed load kinds.Systime is = (tt, refl)
-start_formed load kinds.Task is = absurd cc
-start_formed load kinds.Stack is = absurd cc
-start_formed load kinds.ModuleCount is = (tt, refl)
-start_formed load kinds.Module is = absurd cc
-start_formed load kinds.TraceStop is = absurd cc
-
--- what a start answers where there is nothing to describe
-pub start_owes : (load : Load) (writer step : ℕ) → IsPlain load
-    → act_of load writer step ≡ Some acts.Start
-    → (answers_of load (Call writer step) ≡ Sync
-    ∷ (map reply_of (kinds.TraceStart ∷ kinds.Init ∷ kinds.Systime ∷ kinds.ModuleCount ∷ []) ++
-    []))
+-- what a start answers
+pub start_owes : (load : Load) (writer step : ℕ) → act_of load writer step ≡ Some acts.Start
+    → (answers_of load (Call writer step) ≡ start_answers load)
     × (is_start load (Call writer step) ≡ true)
-start_owes load writer step plain act =
+start_owes load writer step act =
     let start : is_start load (Call writer step) ≡ true =
     ap (λ a. option_map_or is_start_act a false) act in
-    (rw (start, plain.lines, plain.tasks) refl, start)
+    (rw start refl, start)
 
 pub stop_owes : (load : Load) (writer step : ℕ) → act_of load writer step ≡ Some acts.Stop
-    → (answers_of load (Call writer step) ≡ reply_of kinds.TraceStop ∷ [])
+    → (answers_of load (Call writer step) ≡ Reply kinds.TraceStop 0 ∷ [])
     × (is_start load (Call writer step) ≡ false) × (is_stop load (Call writer step) ≡ true)
 stop_owes load writer step act =
     let start : is_start load (Call writer step) ≡ false =
@@ -177,3 +152,47 @@ pub handles_start : (load : Load) (writer step : ℕ) → act_of load writer ste
     → is_control load (Call writer step) ≡ true
 handles_start load writer step act = let start : is_start load (Call writer step) ≡ true =
     ap (λ a. option_map_or is_start_act a false) act in rw start refl
+
+-- what a step that is handled and its answers have at most
+pub control_ahead : (load : Load) (writer step : ℕ) (os : List Origin)
+    → is_control load (Call writer step) ≡ true → answers_of load (Call writer step) ≡ os
+    → (items_ahead load (group_of load (Call writer step)) ≡ 1 + items_ahead load os)
+    × (bytes_ahead load (group_of load (Call writer step)) ≡ bytes_ahead load os)
+control_ahead load writer step os control owes =
+    let call = Call writer step in
+    let item : weight item_weights load call ≡ 1 = rw control refl in
+    let byte : weight byte_weights load call ≡ 0 = rw control refl in (
+      omega (
+        arith,
+        item,
+        sum_by-cons (weight item_weights load) call (answers_of load call),
+        ap (items_ahead load) owes,
+      ),
+      omega (
+        arith,
+        byte,
+        sum_by-cons (weight byte_weights load) call (answers_of load call),
+        ap (bytes_ahead load) owes,
+      ),
+    )
+
+-- what a step that records an event has at most
+pub event_ahead : (load : Load) (writer step : ℕ)
+    → is_control load (Call writer step) ≡ false → answers_of load (Call writer step) ≡ []
+    → (items_ahead load (group_of load (Call writer step)) ≡ 2)
+    × (bytes_ahead load (group_of load (Call writer step)) ≡ weight byte_weights load
+    (Call writer step))
+event_ahead load writer step control owes =
+    let call = Call writer step in (
+      omega (
+        arith,
+        packet_items load call refl control,
+        sum_by-cons (weight item_weights load) call (answers_of load call),
+        ap (items_ahead load) owes,
+      ),
+      omega (
+        arith,
+        sum_by-cons (weight byte_weights load) call (answers_of load call),
+        ap (bytes_ahead load) owes,
+      ),
+    )

@@ -4,12 +4,13 @@ use Rattle.std.proofs.Common.{◌++◌, refl, sym, ap, ◌∙◌, subst, arith}
 use Rattle.std.specs.Prelude.{if◌then◌else◌}
 use Rattle.sv_ring.specs.declared.up_writer.UpWriter.{Ghosts}
 use Rattle.sv_recorder.specs.declared.book.Book.{Book}
-use Rattle.sv_recorder.specs.declared.journal.Origin.{Origin}
-use Rattle.sv_recorder.specs.declared.journal.Origin.TheVariants.{Overflow}
-use Rattle.sv_recorder.specs.declared.journal.Outcome.TheVariants.{Refused, Ignored}
-use Rattle.sv_recorder.specs.Items.{is_stop_reply}
+use Rattle.sv_journal.specs.declared.journal.Origin.{Origin}
+use Rattle.sv_journal.specs.declared.journal.Origin.TheVariants.{Overflow}
+use Rattle.sv_journal.specs.declared.journal.Outcome.TheVariants.{Refused, Ignored}
+use Rattle.sv_journal.specs.Items.{is_stop_reply}
 use Rattle.sv_recorder.specs.Kept.{Keeps}
-use Rattle.sv_recorder.specs.Writes.{Writes, made, packet_block}
+use Rattle.sv_journal.specs.Packets.{packet_block}
+use Rattle.sv_recorder.specs.Writes.{Writes, made}
 use Rattle.sv_recorder.specs.Writes.{IsPacketHere}
 use Rattle.sv_recorder.specs.Book.{Holds, HoldsAs, Stays, Settles}
 use Rattle.sv_recorder.proofs.Packets.{packet-off, packet-plain}

@@ -4,24 +4,24 @@ use Rattle.std.proofs.Common.{[], ◌∷◌, ◌++◌, length, length-append, re
 use Rattle.std.proofs.Common.{arith, rules, append-nil}
 use Rattle.std.specs.Prelude.{count_by, nat_lt, if◌then◌else◌}
 use Rattle.sv_workload.specs.Load.{Load}
-use Rattle.sv_recorder.specs.declared.journal.Origin.{Origin}
-use Rattle.sv_recorder.specs.declared.journal.Origin.TheVariants.{Sync}
-use Rattle.sv_recorder.specs.declared.journal.Outcome.{Outcome}
-use Rattle.sv_recorder.specs.declared.journal.Outcome.TheVariants.{Stored, Refused, Ignored}
-use Rattle.sv_recorder.specs.declared.journal.Outcome.TheVariants.{Handled}
-use Rattle.sv_recorder.specs.declared.journal.Item.{Item}
-use Rattle.sv_recorder.specs.Items.{latest_first, is_command, is_overflow, is_stored, is_refused}
-use Rattle.sv_recorder.specs.Items.{is_packet, holds_packet, is_sync, is_start, is_stop_reply}
-use Rattle.sv_recorder.specs.Items.{is_on, pending_at, last_moment, block_of, stored_before}
-use Rattle.sv_recorder.specs.Legal.{IsNextItem, owes_overflow, write_outcome, freed_before}
-use Rattle.sv_recorder.specs.Stream.{stream_of}
-use Rattle.sv_recorder.specs.Open.{IsOpen, IsDue}
+use Rattle.sv_journal.specs.declared.journal.Origin.{Origin}
+use Rattle.sv_journal.specs.declared.journal.Origin.TheVariants.{Sync}
+use Rattle.sv_journal.specs.declared.journal.Outcome.{Outcome}
+use Rattle.sv_journal.specs.declared.journal.Outcome.TheVariants.{Stored, Refused, Ignored}
+use Rattle.sv_journal.specs.declared.journal.Outcome.TheVariants.{Handled}
+use Rattle.sv_journal.specs.declared.journal.Item.{Item}
+use Rattle.sv_journal.specs.Items.{latest_first, is_command, is_overflow, is_stored, is_refused}
+use Rattle.sv_journal.specs.Items.{is_packet, holds_packet, is_sync, is_start, is_stop_reply}
+use Rattle.sv_journal.specs.Items.{is_on, pending_at, last_moment, block_of, stored_before}
+use Rattle.sv_journal.specs.Legal.{IsNextItem, owes_overflow, write_outcome, freed_before}
+use Rattle.sv_journal.specs.Stream.{stream_of}
+use Rattle.sv_journal.specs.Open.{IsOpen, IsDue}
 use Rattle.sv_recorder.specs.Kept.{Keeps}
-use Rattle.sv_recorder.proofs.Steps.{latest_first-push, stream_of-push, IsOpen-push}
-use Rattle.sv_recorder.proofs.Steps.{IsOpen-overflow, pending_at-refused, pending_at-other}
-use Rattle.sv_recorder.proofs.Steps.{last_moment-stored, last_moment-other, is_on-start}
-use Rattle.sv_recorder.proofs.Steps.{is_on-other, is_on-told, is_on-off}
-use Rattle.sv_recorder.proofs.Next.{Stands, next-plain, next-overflow, next-after, overflow_item}
+use Rattle.sv_journal.proofs.Shared.{latest_first-push, stream_of-push, IsOpen-push}
+use Rattle.sv_journal.proofs.Shared.{IsOpen-overflow, pending_at-refused, pending_at-other}
+use Rattle.sv_journal.proofs.Shared.{last_moment-stored, last_moment-other, is_on-start}
+use Rattle.sv_journal.proofs.Shared.{is_on-other, is_on-told, is_on-off}
+use Rattle.sv_journal.proofs.Shared.{Stands, next-plain, next-overflow, next-after, overflow_item}
 
 -- the bytes that an item adds to the stream
 abbrev pub added : Load → List Item → Item → List ℕ

@@ -7,18 +7,19 @@ use Rattle.sv_ring.specs.declared.up_writer.UpWriter.{Ghosts}
 use Rattle.sv_ring.specs.Ring.{Moves, room_of}
 use Rattle.sv_workload.specs.Load.{Load}
 use Rattle.sv_recorder.specs.declared.book.Book.{Book}
-use Rattle.sv_recorder.specs.declared.journal.Origin.{Origin}
-use Rattle.sv_recorder.specs.declared.journal.Origin.TheVariants.{Overflow}
-use Rattle.sv_recorder.specs.declared.journal.Item.{Item}
+use Rattle.sv_journal.specs.declared.journal.Origin.{Origin}
+use Rattle.sv_journal.specs.declared.journal.Origin.TheVariants.{Overflow}
+use Rattle.sv_journal.specs.declared.journal.Item.{Item}
 use Rattle.sv_recorder.specs.Freed.{wrote_if, AreFreed}
-use Rattle.sv_recorder.specs.Items.{latest_first, last_moment, is_refused}
-use Rattle.sv_recorder.specs.Items.{is_written, is_after_refused_overflow, block_of}
-use Rattle.sv_recorder.specs.Stream.{stream_of}
-use Rattle.sv_recorder.specs.Writes.{Writes, MovesBy, made, outcome_if, packet_block}
-use Rattle.sv_recorder.specs.Writes.{is_call_or_reply}
-use Rattle.sv_recorder.specs.Formed.{IsFormed, packet_bytes, block_bytes, overflow_bytes}
+use Rattle.sv_journal.specs.Items.{latest_first, last_moment, is_refused}
+use Rattle.sv_journal.specs.Items.{is_written, is_after_refused_overflow, block_of}
+use Rattle.sv_journal.specs.Stream.{stream_of}
+use Rattle.sv_journal.specs.Packets.{packet_block}
+use Rattle.sv_recorder.specs.Writes.{Writes, MovesBy, HasPacket, made, outcome_if}
+use Rattle.sv_journal.specs.Packets.{is_call_or_reply}
+use Rattle.sv_recorder.specs.Formed.{packet_bytes, block_bytes, overflow_bytes}
 use Rattle.sv_recorder.specs.Book.{IsReady, Stays, Settles, Goes, head_if}
-use Rattle.sv_recorder.proofs.Steps.{latest_first-push}
+use Rattle.sv_journal.proofs.Shared.{latest_first-push}
 use Rattle.sv_recorder.proofs.Freed.{Written, written-stream, written-freed}
 use Rattle.sv_recorder.proofs.Freed.{packet_written}
 use Rattle.sv_recorder.proofs.Packets.{block_here, not_sync, not_overflow}
@@ -67,7 +68,7 @@ module _ {U : Type 0} {u : Ghosts U} where
       → MovesBy u.size u.sent u.freed u.way old.up mid.up block stored
       → block ≡ packet_block old.load.now origin old.moment old.last
       → length block ≤ block_bytes old.load.now origin
-      → is_call_or_reply origin ≡ true → IsFormed old.load.now origin
+      → is_call_or_reply origin ≡ true → HasPacket old.load.now origin
       → Goes (head_if origin) 2 (packet_bytes old.load.now origin) old new
   plain-goes old mid new origin block stored written settled fits same capacity w moves formed short
       telling fine =
@@ -93,7 +94,7 @@ module _ {U : Type 0} {u : Ghosts U} where
           arith,
           one,
           short,
-          bytes_after old.load.now origin fine,
+          bytes_after old.load.now origin old.texts fine,
           ap
               (λ (e : U). length (u.sent e)) settled.up,
         );
@@ -122,7 +123,7 @@ module _ {U : Type 0} {u : Ghosts U} where
 
   -- a stored overflow leaves the room of its packet
   pub ready_after : (old mid : Book U u) (origin : Origin) (overflow block : List ℕ)
-      → IsReady 2 (packet_bytes old.load.now origin) old → IsFormed old.load.now origin
+      → IsReady 2 (packet_bytes old.load.now origin) old → HasPacket old.load.now origin
       → Stays old mid
       → (u.ring mid.up ≡ u.ring old.up) × (u.size mid.up ≡ u.size old.up)
       × (u.limit mid.up ≡ u.limit old.up) → vec_capacity mid.journal ≡ vec_capacity old.journal
@@ -139,7 +140,7 @@ module _ {U : Type 0} {u : Ghosts U} where
       length-append (u.sent old.up) overflow,
       short,
       short2,
-      bytes_after old.load.now origin formed,
+      bytes_after old.load.now origin old.texts formed,
       same.2,
     );
     few = omega (arith, r.few, written.pending);

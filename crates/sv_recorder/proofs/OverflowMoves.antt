@@ -7,19 +7,20 @@ use Rattle.std.proofs.lemmas.List.{length-append}
 use Rattle.sv_ring.specs.declared.up_writer.UpWriter.{Ghosts}
 use Rattle.sv_workload.specs.Load.{Load}
 use Rattle.sv_recorder.specs.declared.book.Book.{Book}
-use Rattle.sv_recorder.specs.declared.journal.Origin.{Origin}
-use Rattle.sv_recorder.specs.declared.journal.Origin.TheVariants.{Overflow}
-use Rattle.sv_recorder.specs.declared.journal.Outcome.TheVariants.{Stored, Refused}
-use Rattle.sv_recorder.specs.declared.journal.Item.{Item}
+use Rattle.sv_journal.specs.declared.journal.Origin.{Origin}
+use Rattle.sv_journal.specs.declared.journal.Origin.TheVariants.{Overflow}
+use Rattle.sv_journal.specs.declared.journal.Outcome.TheVariants.{Stored, Refused}
+use Rattle.sv_journal.specs.declared.journal.Item.{Item}
 use Rattle.sv_recorder.specs.Freed.{AreFreed}
-use Rattle.sv_recorder.specs.Items.{latest_first, last_moment, is_refused}
-use Rattle.sv_recorder.specs.Items.{is_after_refused_overflow}
-use Rattle.sv_recorder.specs.Stream.{stream_of}
-use Rattle.sv_recorder.specs.Writes.{Writes, MovesBy, made, outcome_if, packet_block}
-use Rattle.sv_recorder.specs.Writes.{is_call_or_reply}
-use Rattle.sv_recorder.specs.Formed.{IsFormed, packet_bytes, block_bytes}
+use Rattle.sv_journal.specs.Items.{latest_first, last_moment, is_refused}
+use Rattle.sv_journal.specs.Items.{is_after_refused_overflow}
+use Rattle.sv_journal.specs.Stream.{stream_of}
+use Rattle.sv_journal.specs.Packets.{packet_block}
+use Rattle.sv_recorder.specs.Writes.{Writes, MovesBy, HasPacket, made, outcome_if}
+use Rattle.sv_journal.specs.Packets.{is_call_or_reply}
+use Rattle.sv_recorder.specs.Formed.{packet_bytes, block_bytes}
 use Rattle.sv_recorder.specs.Book.{Stays, Settles, Goes, head_if}
-use Rattle.sv_recorder.proofs.Steps.{latest_first-push, last_moment-other}
+use Rattle.sv_journal.proofs.Shared.{latest_first-push, last_moment-other}
 use Rattle.sv_recorder.proofs.Freed.{unwritten-stream}
 use Rattle.sv_recorder.proofs.Freed.{unwritten-freed, packet_written, refused_unwritten}
 use Rattle.sv_recorder.proofs.Freed.{freed-append}
@@ -133,7 +134,7 @@ module _ {U : Type 0} {u : Ghosts U} where
       → overflow ≡ packet_block old.load.now (Overflow old.pending) old.moment old.last
       → block ≡ packet_block old.load.now origin old.moment old.moment
       → length overflow ≤ 11 → length block ≤ block_bytes old.load.now origin
-      → is_call_or_reply origin ≡ true → IsFormed old.load.now origin
+      → is_call_or_reply origin ≡ true → HasPacket old.load.now origin
       → Goes (head_if origin) 2 (packet_bytes old.load.now origin) old new
   after-goes old first second new origin overflow block stored written again settled fits same same2
       capacity capacity2 v w moves moves2 formed formed2 short short2 telling fine =
@@ -174,7 +175,7 @@ module _ {U : Type 0} {u : Ghosts U} where
           two,
           short,
           short2,
-          bytes_after old.load.now origin fine,
+          bytes_after old.load.now origin old.texts fine,
           ap
               (λ (e : U). length (u.sent e)) settled.up,
         );

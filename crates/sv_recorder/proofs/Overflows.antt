@@ -5,25 +5,26 @@ use Rattle.std.proofs.Common.{append-nil, replicate}
 use Rattle.std.specs.Prelude.{count_by, sum_by, nat_lt, if◌then◌else◌}
 use Rattle.std.proofs.lemmas.List.Sums.{sum_by-cons}
 use Rattle.sv_workload.specs.Load.{Load}
-use Rattle.sv_recorder.specs.declared.journal.Origin.{Origin}
-use Rattle.sv_recorder.specs.declared.journal.Origin.TheVariants.{Call, Sync, Reply, Overflow}
-use Rattle.sv_recorder.specs.declared.journal.Origin.TheVariants.{Command}
-use Rattle.sv_recorder.specs.declared.journal.Outcome.{Outcome}
-use Rattle.sv_recorder.specs.declared.journal.Outcome.TheVariants.{Stored, Refused}
-use Rattle.sv_recorder.specs.declared.journal.Item.{Item}
-use Rattle.sv_recorder.specs.Items.{latest_first, is_call_of, is_packet, is_sync, is_stop_reply}
-use Rattle.sv_recorder.specs.Items.{is_on, pending_at, last_moment, block_of, stored_before}
-use Rattle.sv_recorder.specs.Items.{stream_before, room_at}
-use Rattle.sv_recorder.specs.Legal.{IsNextStep, write_outcome, ticks_of, outcome_at}
+use Rattle.sv_journal.specs.declared.journal.Origin.{Origin}
+use Rattle.sv_journal.specs.declared.journal.Origin.TheVariants.{Call, Sync, Reply, Overflow}
+use Rattle.sv_journal.specs.declared.journal.Origin.TheVariants.{Command}
+use Rattle.sv_journal.specs.declared.journal.Outcome.{Outcome}
+use Rattle.sv_journal.specs.declared.journal.Outcome.TheVariants.{Stored, Refused}
+use Rattle.sv_journal.specs.declared.journal.Item.{Item}
+use Rattle.sv_journal.specs.Items.{latest_first, is_call_of, is_packet, is_sync, is_stop_reply}
+use Rattle.sv_journal.specs.Items.{is_on, pending_at, last_moment, block_of, stored_before}
+use Rattle.sv_journal.specs.Items.{stream_before, room_at}
+use Rattle.sv_journal.specs.Legal.{IsNextStep, write_outcome, ticks_of, outcome_at}
 use Rattle.sv_recorder.specs.Kept.{Keeps}
 use Rattle.sv_ring.specs.Ring.{room_of}
-use Rattle.sv_recorder.proofs.Steps.{outcome_at-after, outcome_at-write, is_on-told}
-use Rattle.sv_recorder.proofs.Steps.{pending_at-refused, pending_at-other}
-use Rattle.sv_recorder.proofs.Steps.{pending_at-stored_overflow, last_moment-stored}
-use Rattle.sv_recorder.proofs.Steps.{last_moment-other, stored_before-le}
-use Rattle.sv_recorder.proofs.Next.{Stands, overflow_item}
+use Rattle.sv_journal.proofs.Shared.{outcome_at-after, outcome_at-write, is_on-told}
+use Rattle.sv_journal.proofs.Shared.{pending_at-refused, pending_at-other}
+use Rattle.sv_journal.proofs.Shared.{pending_at-stored_overflow, last_moment-stored}
+use Rattle.sv_journal.proofs.Shared.{last_moment-other, stored_before-le}
+use Rattle.sv_journal.proofs.Shared.{Stands, overflow_item}
 use Rattle.sv_recorder.proofs.Items.{keeps-after, added, moved, no_overflow, not_refused}
-use Rattle.sv_recorder.specs.Writes.{Writes, made, outcome_if, packet_block, is_call_or_reply}
+use Rattle.sv_journal.specs.Packets.{packet_block, is_call_or_reply}
+use Rattle.sv_recorder.specs.Writes.{Writes, made, outcome_if}
 use Rattle.sv_recorder.specs.Writes.{IsPacketHere}
 use Rattle.sv_recorder.proofs.Packets.{not_sync, not_overflow, not_command, not_start, in_place}
 use Rattle.sv_recorder.proofs.Packets.{refused_packet, few_more, turned}

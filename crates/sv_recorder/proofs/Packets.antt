@@ -4,23 +4,24 @@ use Rattle.std.proofs.Common.{◌++◌, length, refl, sym, ap, ◌∙◌, subst,
 use Rattle.std.specs.Prelude.{count_by, nat_lt, if◌then◌else◌}
 use Rattle.std.proofs.lemmas.List.Sums.{sum_by-cons, sum_by-append}
 use Rattle.sv_workload.specs.Load.{Load}
-use Rattle.sv_recorder.specs.declared.journal.Origin.{Origin}
-use Rattle.sv_recorder.specs.declared.journal.Origin.TheVariants.{Call, Sync, Reply, Overflow}
-use Rattle.sv_recorder.specs.declared.journal.Origin.TheVariants.{Command}
-use Rattle.sv_recorder.specs.declared.journal.Outcome.{Outcome}
-use Rattle.sv_recorder.specs.declared.journal.Outcome.TheVariants.{Stored, Refused, Ignored}
-use Rattle.sv_recorder.specs.declared.journal.Item.{Item}
-use Rattle.sv_recorder.specs.Items.{latest_first, is_command, is_overflow, is_packet, is_sync}
-use Rattle.sv_recorder.specs.Items.{is_start, is_stop, is_stop_reply, last_moment, block_of}
-use Rattle.sv_recorder.specs.Items.{stored_before, room_at}
-use Rattle.sv_recorder.specs.Legal.{IsCommandInPlace, outcome_at, write_outcome, is_control}
-use Rattle.sv_recorder.specs.Legal.{ticks_of}
+use Rattle.sv_journal.specs.declared.journal.Origin.{Origin}
+use Rattle.sv_journal.specs.declared.journal.Origin.TheVariants.{Call, Sync, Reply, Overflow}
+use Rattle.sv_journal.specs.declared.journal.Origin.TheVariants.{Command}
+use Rattle.sv_journal.specs.declared.journal.Outcome.{Outcome}
+use Rattle.sv_journal.specs.declared.journal.Outcome.TheVariants.{Stored, Refused, Ignored}
+use Rattle.sv_journal.specs.declared.journal.Item.{Item}
+use Rattle.sv_journal.specs.Items.{latest_first, is_command, is_overflow, is_packet, is_sync}
+use Rattle.sv_journal.specs.Items.{is_start, is_stop, is_stop_reply, last_moment, block_of}
+use Rattle.sv_journal.specs.Items.{stored_before, room_at}
+use Rattle.sv_journal.specs.Legal.{IsCommandInPlace, outcome_at, write_outcome, is_control}
+use Rattle.sv_journal.specs.Legal.{ticks_of}
 use Rattle.sv_recorder.specs.Kept.{Keeps}
 use Rattle.sv_ring.specs.Ring.{room_of}
-use Rattle.sv_recorder.proofs.Steps.{outcome_at-off, outcome_at-write}
-use Rattle.sv_recorder.proofs.Next.{after_refused-fresh}
+use Rattle.sv_journal.proofs.Shared.{outcome_at-off, outcome_at-write}
+use Rattle.sv_journal.proofs.Shared.{after_refused-fresh}
 use Rattle.sv_recorder.proofs.Items.{Comes, keeps-ignored, keeps-refused, keeps-stored}
-use Rattle.sv_recorder.specs.Writes.{Writes, made, outcome_if, packet_block, is_call_or_reply}
+use Rattle.sv_journal.specs.Packets.{packet_block, is_call_or_reply}
+use Rattle.sv_recorder.specs.Writes.{Writes, made, outcome_if}
 use Rattle.sv_recorder.specs.Writes.{IsPacketHere}
 
 pub not_sync : (o : Origin) → is_call_or_reply o ≡ true → is_sync o ≡ false

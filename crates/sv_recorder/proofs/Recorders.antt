@@ -1,38 +1,40 @@
 -- What a recorder keeps from one section to the next.
-use Rattle.std.proofs.Common.{◌≡◌, ℕ, zero, suc, ◌+◌, ◌<◌, ◌≤◌, Bool, false, cond, List}
-use Rattle.std.proofs.Common.{[], ◌∷◌, ◌++◌, length, drop, sym, ap, ◌∙◌, subst, arith}
-use Rattle.std.proofs.Common.{vec_capacity}
-use Rattle.std.specs.Prelude.{sum_by, count_by, take_while, slice_get, Some}
-use Rattle.std.specs.Prelude.{None}
+use mathlib.Core.Logic.{dite}
+use native.Mathlib.Decide.{ℕ_discrete}
+use Rattle.std.proofs.Common.{◌≡◌, ◌≢◌, ℕ, zero, suc, ◌+◌, ◌^◌, ◌<◌, ◌≤◌, Bool, true, false, cond}
+use Rattle.std.proofs.Common.{List, [], ◌∷◌, ◌++◌, length, get_or, refl, sym, ap, ◌∙◌, subst, arith}
+use Rattle.std.proofs.Common.{vec_capacity, inr}
+use Rattle.std.specs.Prelude.{sum_by, count_by, take_while, slice_get, slice_set, slice_index_or}
+use Rattle.std.specs.Prelude.{Some, None, ◌==◌}
 use Rattle.std.specs.List.{prefix_len}
-use Rattle.std.proofs.lemmas.List.{length-append, length-reverse, length-take}
-use Rattle.std.proofs.lemmas.List.Sums.{sum_by-cons, sum_by-append, count_by-le-length}
+use Rattle.std.proofs.lemmas.Bool.{eq-eqb, ne_eqb}
+use Rattle.std.proofs.lemmas.List.{length-append, length-reverse, length-take, length-set}
+use Rattle.std.proofs.lemmas.List.{get_or-set_same, get_or-set_other}
+use Rattle.std.proofs.lemmas.List.Sums.{sum_by-append, count_by-le-length}
 use Rattle.sv_ring.specs.declared.up_writer.UpWriter.{Ghosts}
 use Rattle.sv_workload.specs.declared.load.Step.{Step}
 use Rattle.sv_workload.specs.Load.{Load, script_of, step_of}
+use Rattle.sv_journal.specs.declared.journal.Origin.TheVariants.{Call}
+use Rattle.sv_journal.specs.declared.journal.Item.{Item}
+use Rattle.sv_journal.specs.Items.{latest_first, is_after_refused_overflow, is_call_of}
+use Rattle.sv_journal.specs.Items.{last_moment, pending_at}
+use Rattle.sv_journal.specs.Legal.{IsNextStep, ticks_of, answers_of, group_of}
+use Rattle.sv_journal.specs.Open.{IsDue}
+use Rattle.sv_journal.specs.Stream.{stream_of}
+use Rattle.sv_journal.specs.Clock.{clock_of}
+use Rattle.sv_journal.specs.Section.{IsSection}
+use Rattle.sv_journal.proofs.Shared.{after_refused-fresh}
+use Rattle.sv_need.specs.Next.{MayCome}
+use Rattle.sv_need.specs.Weights.{items_ahead, bytes_ahead}
+use Rattle.sv_need.proofs.Shared.{due_items, due_bytes, few_needed, ticks_next}
 use Rattle.sv_recorder.specs.declared.book.Book.{Book}
-use Rattle.sv_recorder.specs.declared.journal.Origin.TheVariants.{Call}
-use Rattle.sv_recorder.specs.declared.journal.Item.{Item}
-use Rattle.sv_recorder.specs.Items.{latest_first, is_after_refused_overflow, is_call_of}
-use Rattle.sv_recorder.specs.Items.{last_moment, pending_at}
-use Rattle.sv_recorder.specs.Legal.{IsNextStep, ticks_of}
 use Rattle.sv_recorder.specs.Freed.{AreFreed}
 use Rattle.sv_recorder.specs.Kept.{Keeps}
-use Rattle.sv_recorder.specs.Plain.{IsPlain}
-use Rattle.sv_recorder.specs.Stream.{stream_of}
-use Rattle.sv_recorder.specs.Clock.{clock_of}
-use Rattle.sv_recorder.specs.Needs.{step_items, step_bytes}
-use Rattle.sv_recorder.specs.Book.{Advances, Holds, Goes}
-use Rattle.sv_recorder.specs.Section.{IsSection}
+use Rattle.sv_recorder.specs.Book.{Advances, Holds, Goes, IsReady, KeepsStep}
+use Rattle.sv_recorder.specs.Replies.{IsReadyFor, GoesFor}
 use Rattle.sv_recorder.specs.Recording.{IsRecorder}
 use Rattle.sv_recorder.proofs.Goes.{sum_latest, calls_heads, clock-goes}
-use Rattle.sv_recorder.proofs.Next.{after_refused-fresh}
 use Rattle.sv_recorder.proofs.Books.{ticks_at}
-
--- there is one writer
-pub only_writer : (load : Load) (writer : ℕ) → IsPlain load → writer < length load.scripts
-    → writer ≡ 0
-only_writer load writer plain within = omega (arith, plain.writer, within)
 
 pub count_latest : (p : Item → Bool) (items : List Item)
     → count_by p (latest_first items) ≡ count_by p items
@@ -53,141 +55,213 @@ pending_few items = omega (
       items,
 )
 
--- the step at a place, and those after it
-drop_next : (steps : List Step) (place : ℕ) (step : Step) → slice_get steps place ≡ Some step
-    → drop place steps ≡ step ∷ drop (suc place) steps
-drop_next [] place step is = absurd cc
-drop_next (s ∷ steps) zero step is = let same : s ≡ step = cc in cc
-drop_next (s ∷ steps) (suc place) step is = drop_next steps place step is
-
-pub drop_at : (steps : List Step) (place : ℕ) (step : Step) → slice_get steps place ≡ Some step
-    → drop place steps ≡ step ∷ drop (place + 1) steps
-drop_at steps place step is = drop_next steps place step is
-    ∙ ap (λ (n : ℕ). step ∷ drop n steps) (let e : suc place ≡ place + 1 = omega arith in e)
-
+-- a step that stands in a script
 pub place_within : (steps : List Step) (place : ℕ) (step : Step) → slice_get steps place ≡ Some step
     → place < length steps
 place_within [] place step is = absurd cc
 place_within (s ∷ steps) zero step is = omega arith
-place_within (s ∷ steps) (suc place) step is = let rest =
-    place_within steps place step is in omega (arith, rest)
+place_within (s ∷ steps) (suc place) step is = omega (arith, place_within steps place step is)
 
-pub needs_at : (f : Step → ℕ) (steps : List Step) (place : ℕ) (step : Step)
-    → slice_get steps place ≡ Some step → sum_by f (drop place steps) ≡ f step + sum_by f
-    (drop (place + 1) steps)
-needs_at f steps place step is = ap (sum_by f) (drop_at steps place step is)
-    ∙ sum_by-cons f step (drop (place + 1) steps)
+-- the writer has one call more, and the others have as many as before
+one_call : (writer place other : ℕ)
+    → count_by (is_call_of other) (Call writer place ∷ []) ≡ cond (writer == other) 1 0
+one_call writer place other = by (writer == other)
+  where
+    by : (b : Bool) → sum_by (λ (x : ℕ). x) (cond b 1 0 ∷ []) ≡ cond b 1 0
+    by true = refl
+    by false = refl
 
 module _ {U : Type 0} {u : Ghosts U} where
-  abbrev Keeping : Book U u → ℕ → Type 0
-  Keeping book place = IsRecorder book.load.now book.journal.items (u.sent book.up)
-      (u.freed book.up) (u.limit book.up) book.on book.pending book.last book.moment place
+  abbrev pub Keeping : Book U u → List ℕ → Type 0
+  Keeping book places = IsRecorder book.load.now book.journal.items (u.sent book.up)
+      (u.freed book.up) (u.limit book.up) book.on book.pending book.last book.moment places
       (vec_capacity book.journal)
 
-  pub next_step : (old : Book U u) (place : ℕ) (step : Step) → Keeping old place
-      → step_of old.load.now 0 place ≡ Some step → IsNextStep old.load.now
-      (latest_first old.journal.items) (Call 0 place)
-  next_step old place step r is = (
-    r.place_is ∙ sym
-        (count_latest (λ i. is_call_of 0 i.origin) old.journal.items),
-    place_within
-        (script_of old.load.now 0) place step is,
+  -- the place of a writer that there is
+  pub record IsAt (book : Book U u) (places : List ℕ) (writer place : ℕ) (step : Step) : Type 0 where
+    pub kept : Keeping book places
+    pub there : writer < length book.load.now.scripts
+    pub place_is : place ≡ slice_index_or places writer 0
+    pub step_is : step_of book.load.now writer place ≡ Some step
+
+  pub place_count : (book : Book U u) (places : List ℕ) (writer place : ℕ) (step : Step)
+      → IsAt book places writer place step
+      → place ≡ count_by (λ i. is_call_of writer i.origin) book.journal.items
+  place_count book places writer place step a = a.place_is ∙ a.kept.places_are writer a.there
+
+  pub next_step : (book : Book U u) (places : List ℕ) (writer place : ℕ) (step : Step)
+      → IsAt book places writer place step
+      → IsNextStep book.load.now (latest_first book.journal.items) (Call writer place)
+  next_step book places writer place step a = (
+    place_count book places writer place step a
+        ∙ sym (count_latest (λ i. is_call_of writer i.origin) book.journal.items),
+    place_within (script_of book.load.now writer) place step a.step_is,
   )
 
-  -- the ticks of the next step have passed
-  next_moment : (old mid : Book U u) (place : ℕ) (step : Step) → Keeping old place
-      → step_of old.load.now 0 place ≡ Some step → Advances step.advance old mid
-      → mid.moment ≡ ticks_of mid.load.now (Call 0 place) + clock_of mid.load.now mid.journal.items
-  next_moment old mid place step r is a =
-      let load = old.load.now in
-      let tick = ticks_at load 0 place step is in
-      let e : old.moment + step.advance ≡ ticks_of load (Call 0 place) + clock_of load
-      old.journal.items = omega (arith, r.clock, tick) in
-      rw (a.load, a.journal) (a.moment ∙ e)
+  -- the moment of a step is far from the end of its numbers
+  pub moment_fits : (book : Book U u) (places : List ℕ) (writer place : ℕ) (step : Step)
+      → IsAt book places writer place step → book.moment + step.advance ≤ 2 ^ 53
+  moment_fits book places writer place step a = omega (
+    arith,
+    a.kept.clock,
+    ticks_at book.load.now writer place step a.step_is,
+    ticks_next book.load.now book.journal.items [] (Call writer place) a.kept.held.opened
+        (next_step book places writer place step a) a.kept.limits,
+  )
 
-  -- a step was taken
-  pub taken : (old mid new : Book U u) (place : ℕ) (step : Step) → Keeping old place
-      → step_of old.load.now 0 place ≡ Some step → Advances step.advance old mid
-      → (Holds mid [] → IsNextStep mid.load.now (latest_first mid.journal.items) (Call 0 place)
-      → mid.moment ≡ ticks_of mid.load.now (Call 0 place) + clock_of mid.load.now
-      mid.journal.items → Holds new [])
-      → Goes (Call 0 place ∷ []) (step_items step) (step_bytes step) mid new
-      → Keeping new (place + 1)
-  taken old mid new place step r is a kept goes =
+  -- there is room for the step and all that it answers
+  pub ready_at : (old mid : Book U u) (places : List ℕ) (writer place : ℕ) (step : Step)
+      → IsAt old places writer place step → Advances step.advance old mid
+      → IsReadyFor (group_of mid.load.now (Call writer place)) mid
+  ready_at old mid places writer place step at a =
       let load = old.load.now in
-      let load_is : new.load.now ≡ load = goes.load ∙ a.load in
-      let moment : new.moment ≡ old.moment + step.advance = goes.moment ∙ a.moment in
-      let script = script_of load 0 in
-      let items = needs_at step_items script place step is in
-      let bytes = needs_at step_bytes script place step is in
-      let ticks = needs_at (λ (s : Step). s.advance) script place step is in
-      let added : new.journal.items ≡ old.journal.items ++ goes.more = goes.added
-      ∙ ap (λ v. v.items ++ goes.more) a.journal in
-      let longer : length new.journal.items ≡ length old.journal.items + length goes.more =
-      ap length added ∙ length-append old.journal.items goes.more in
-      let clock = rw (a.load, a.journal) at (clock-goes mid new (Call 0 place ∷ [])
-      (step_items step) (step_bytes step) goes) in
-      let tick = ticks_at load 0 place step is in
-      let calls : count_by (λ i. is_call_of 0 i.origin) new.journal.items ≡ count_by
-      (λ i. is_call_of 0 i.origin) old.journal.items + 1 =
-      ap (count_by (λ i. is_call_of 0 i.origin)) added
-      ∙ sum_by-append (λ (i : Item). cond (is_call_of 0 i.origin) 1 0) old.journal.items
-      goes.more
-      ∙ ap (λ (n : ℕ). count_by (λ i. is_call_of 0 i.origin) old.journal.items + n)
-      (calls_heads 0 goes.more ∙ ap (count_by (is_call_of 0)) goes.headed) in
-      let held : Holds mid [] = rw (a.load, a.journal, a.up, a.on, a.pending, a.last) r.held in
-      let next : IsNextStep mid.load.now (latest_first mid.journal.items) (Call 0 place) =
-      rw (a.load, a.journal) (next_step old place step r is) in
-      let whole : IsRecorder load new.journal.items (u.sent new.up) (u.freed new.up)
-      (u.limit new.up) new.on new.pending new.last new.moment (place + 1)
-      (vec_capacity new.journal) = record {
-        limits = r.limits;
-        held = subst (λ (l : Load). Keeps l new.journal.items [] (u.sent new.up) (u.freed new.up)
-            new.on new.pending new.last) load_is (kept held next
-            (next_moment old mid place step r is a));
-        clock = moment ∙ clock_is old.moment step.advance (ticks_of load (Call 0 place))
-            (clock_of load old.journal.items) r.clock tick ∙ sym clock
-            ∙ ap (λ (l : Load). clock_of l new.journal.items) load_is;
-        place_is = omega (arith, r.place_is, calls);
-        within = omega (arith, place_within script place step is);
+      let r = at.kept in
+      let call = Call writer place in
+      let may : MayCome load old.journal.items call = record {
+        step = next_step old places writer place step at;
+        command = λ (e : false ≡ true). absurd cc;
+      } in
+      let due : IsDue load [] call (answers_of load call) = inr (refl, refl, refl) in
+      let items = due_items load old.journal.items [] (answers_of load call) call r.held.opened
+      due may in
+      let bytes = due_bytes load old.journal.items [] (answers_of load call) call r.held.opened
+      due may old.texts in
+      let ready : IsReady (items_ahead load (group_of load call))
+      (bytes_ahead load (group_of load call)) mid = record {
         room = omega (
           arith,
           r.room,
           items,
-          longer,
-          goes.few,
-          goes.capacity,
-          ap vec_capacity
-              a.journal,
+          ap (λ v. length v.items) a.journal,
+          ap vec_capacity a.journal,
         );
-        few = omega (arith, r.few, items, longer, goes.few);
-        bytes = omega (
+        within = omega (
           arith,
           r.bytes,
           bytes,
-          goes.short,
-          goes.limit_same,
-          ap
-              (λ (e : U). length (u.sent e)) a.up,
+          ap length r.held.sent_is,
+          ap (λ (e : U). length (u.sent e)) a.up,
           ap u.limit a.up,
         );
-        ticks = omega (arith, r.ticks, ticks, moment);
+        few = omega (
+          arith,
+          r.held.pending_is,
+          pending_few old.journal.items,
+          items,
+          few_needed load r.limits,
+          a.pending,
+        );
+      } in
+      subst (λ l. IsReady (items_ahead l (group_of l call)) (bytes_ahead l (group_of l call)) mid)
+      (sym a.load) ready
+
+  -- the ticks of the next step have passed
+  next_moment : (old mid : Book U u) (places : List ℕ) (writer place : ℕ) (step : Step)
+      → IsAt old places writer place step → Advances step.advance old mid
+      → mid.moment ≡ ticks_of mid.load.now (Call writer place) + clock_of mid.load.now
+      mid.journal.items
+  next_moment old mid places writer place step at a =
+      let load = old.load.now in
+      let tick = ticks_at load writer place step at.step_is in
+      let e : old.moment + step.advance ≡ ticks_of load (Call writer place) + clock_of load
+      old.journal.items = omega (arith, at.kept.clock, tick) in
+      rw (a.load, a.journal) (a.moment ∙ e)
+
+  -- the calls of a writer after a step
+  calls_more : (old mid new : Book U u) (writer place other m n : ℕ)
+      → mid.journal ≡ old.journal → Goes (Call writer place ∷ []) m n mid new
+      → count_by (λ i. is_call_of other i.origin) new.journal.items ≡ count_by
+      (λ i. is_call_of other i.origin) old.journal.items + cond (writer == other) 1 0
+  calls_more old mid new writer place other m n same goes =
+      let before = count_by (λ (i : Item). is_call_of other i.origin) old.journal.items in
+      ap (count_by (λ (i : Item). is_call_of other i.origin)) (goes.added
+      ∙ ap (λ v. v.items ++ goes.more) same)
+      ∙ sum_by-append (λ (i : Item). cond (is_call_of other i.origin) 1 0) old.journal.items
+      goes.more
+      ∙ ap (λ (k : ℕ). before + k) (calls_heads other goes.more
+      ∙ ap (count_by (is_call_of other)) goes.headed ∙ one_call writer place other)
+
+  -- a step was taken
+  pub taken : (old mid new : Book U u) (places : List ℕ) (writer place : ℕ) (step : Step)
+      → IsAt old places writer place step → Advances step.advance old mid
+      → KeepsStep (Call writer place) mid new
+      → GoesFor (Call writer place ∷ []) (group_of mid.load.now (Call writer place)) mid new
+      → Keeping new (slice_set places writer (place + 1))
+  taken old mid new places writer place step at a kept goes =
+      let load = old.load.now in
+      let r = at.kept in
+      let call = Call writer place in
+      let load_is : new.load.now ≡ load = goes.load ∙ a.load in
+      let moment : new.moment ≡ old.moment + step.advance = goes.moment ∙ a.moment in
+      let clock = rw (a.load, a.journal) at (clock-goes mid new (call ∷ [])
+      (items_ahead mid.load.now (group_of mid.load.now call))
+      (bytes_ahead mid.load.now (group_of mid.load.now call)) goes) in
+      let tick = ticks_at load writer place step at.step_is in
+      let held : Holds mid [] = rw (a.load, a.journal, a.up, a.on, a.pending, a.last) r.held in
+      let next : IsNextStep mid.load.now (latest_first mid.journal.items) call =
+      rw (a.load, a.journal) (next_step old places writer place step at) in
+      let most : length load.scripts ≤ 16 = r.limits.writers in
+      let whole : IsRecorder load new.journal.items (u.sent new.up) (u.freed new.up)
+      (u.limit new.up) new.on new.pending new.last new.moment (slice_set places writer (place + 1))
+      (vec_capacity new.journal) = record {
+        limits = r.limits;
+        held = subst (λ (l : Load). Keeps l new.journal.items [] (u.sent new.up) (u.freed new.up)
+            new.on new.pending new.last) load_is (kept held next
+            (next_moment old mid places writer place step at a));
+        clock = moment ∙ clock_is old.moment step.advance (ticks_of load call)
+            (clock_of load old.journal.items) r.clock tick ∙ sym clock
+            ∙ ap (λ (l : Load). clock_of l new.journal.items) load_is;
+        writers = length-set places writer (place + 1) ∙ r.writers;
+        places_are = λ other within.
+            let more = calls_more old mid new writer place other
+            (items_ahead mid.load.now (group_of mid.load.now call))
+            (bytes_ahead mid.load.now (group_of mid.load.now call)) a.journal goes in
+            dite (ℕ_discrete other writer)
+            (λ same. subst (λ (w : ℕ). get_or (slice_set places writer (place + 1)) w 0 ≡ count_by
+            (λ i. is_call_of w i.origin) new.journal.items) (sym same)
+            (get_or-set_same places writer (place + 1) 0 (omega (arith, r.writers, most, at.there))
+            ∙ here old new writer place (place_count old places writer place step at)
+            (calls_more old mid new writer place writer
+            (items_ahead mid.load.now (group_of mid.load.now call))
+            (bytes_ahead mid.load.now (group_of mid.load.now call)) a.journal goes)))
+            (λ apart. get_or-set_other places writer other (place + 1) 0 apart
+            ∙ r.places_are other within ∙ there old new writer other
+            (λ e. apart (sym e)) more);
+        room = omega (arith, r.room, goes.capacity, ap vec_capacity a.journal);
+        bytes = omega (arith, r.bytes, goes.limit_same, ap u.limit a.up);
       } in
       subst (λ (l : Load). IsRecorder l new.journal.items (u.sent new.up) (u.freed new.up)
-      (u.limit new.up) new.on new.pending new.last new.moment (place + 1)
-      (vec_capacity new.journal)) (sym load_is) whole
+      (u.limit new.up) new.on new.pending new.last new.moment
+      (slice_set places writer (place + 1)) (vec_capacity new.journal)) (sym load_is) whole
     where
       clock_is : (m a t k : ℕ) → m ≡ k → t ≡ a → m + a ≡ k + (0 + t)
       clock_is m a t k p q = omega (arith, p, q)
 
+      here : (old new : Book U u) (writer place : ℕ)
+          → place ≡ count_by (λ i. is_call_of writer i.origin) old.journal.items
+          → count_by (λ i. is_call_of writer i.origin) new.journal.items ≡ count_by
+          (λ i. is_call_of writer i.origin) old.journal.items + cond (writer == writer) 1 0
+          → place + 1 ≡ count_by (λ i. is_call_of writer i.origin) new.journal.items
+      here old new writer place is more =
+          omega (arith, is, more, ap {B = ℕ} (λ b. cond b 1 0) (eq-eqb writer writer refl))
+
+      there : (old new : Book U u) (writer other : ℕ) → writer ≢ other
+          → count_by (λ i. is_call_of other i.origin) new.journal.items ≡ count_by
+          (λ i. is_call_of other i.origin) old.journal.items + cond (writer == other) 1 0
+          → count_by (λ i. is_call_of other i.origin) old.journal.items ≡ count_by
+          (λ i. is_call_of other i.origin) new.journal.items
+      there old new writer other apart more =
+          omega (arith, more, ap {B = ℕ} (λ b. cond b 1 0) (ne_eqb writer other apart))
+
   -- what the section added
-  pub section_of : (old mid new : Book U u) (place : ℕ) (step : Step) → Keeping old place
-      → Advances step.advance old mid
-      → Goes (Call 0 place ∷ []) (step_items step) (step_bytes step) mid new
-      → (s : IsSection old.journal.items new.journal.items 0 None)
+  pub section_of : (old mid new : Book U u) (places : List ℕ) (writer place : ℕ) (step : Step)
+      → IsAt old places writer place step → Advances step.advance old mid
+      → GoesFor (Call writer place ∷ []) (group_of mid.load.now (Call writer place)) mid new
+      → (s : IsSection old.journal.items new.journal.items writer None)
       × AreFreed old.load.now (latest_first old.journal.items) s.more (u.way old.up)
       (u.freed old.up) (u.way new.up) (u.freed new.up)
-  section_of old mid new place step r a goes =
+  section_of old mid new places writer place step at a goes =
+      let r = at.kept in
       let stream : u.sent mid.up ≡ stream_of mid.load.now mid.journal.items =
       rw (a.load, a.journal, a.up) r.held.sent_is in
       let last : mid.last ≡ last_moment (latest_first mid.journal.items) =
@@ -197,10 +271,9 @@ module _ {U : Type 0} {u : Ghosts U} where
       let moved = (goes.moved (record { stream = stream; last = last; ready = ready })).1 in (
         record {
           more = goes.more;
-          longer = goes.added
-              ∙ ap (λ v. v.items ++ goes.more) a.journal;
+          longer = goes.added ∙ ap (λ v. v.items ++ goes.more) a.journal;
           heads = goes.headed
-              ∙ ap (λ (n : ℕ). Call 0 n ∷ []) r.place_is;
+              ∙ ap (λ (n : ℕ). Call writer n ∷ []) (place_count old places writer place step at);
         },
         rw (a.load, a.journal, a.up) at moved,
       )

@@ -3,12 +3,12 @@ use Rattle.std.specs.Prelude.{◌≡◌, ◌⊎◌, true, false, List, ◌∷◌
 use Rattle.sv_workload.specs.Load.{Load}
 use Rattle.sv_recorder.specs.declared.answer.Answer.{Answer}
 use Rattle.sv_recorder.specs.declared.answer.Answer.TheVariants as answers
-use Rattle.sv_recorder.specs.declared.journal.Origin.{Origin}
-use Rattle.sv_recorder.specs.declared.journal.Outcome.{Outcome}
-use Rattle.sv_recorder.specs.declared.journal.Outcome.TheVariants.{Stored, Refused, Ignored}
-use Rattle.sv_recorder.specs.declared.journal.Outcome.TheVariants.{Handled}
-use Rattle.sv_recorder.specs.declared.journal.Item.{Item}
-use Rattle.sv_recorder.specs.Legal.{is_control}
+use Rattle.sv_journal.specs.declared.journal.Origin.{Origin}
+use Rattle.sv_journal.specs.declared.journal.Outcome.{Outcome}
+use Rattle.sv_journal.specs.declared.journal.Outcome.TheVariants.{Stored, Refused, Ignored}
+use Rattle.sv_journal.specs.declared.journal.Outcome.TheVariants.{Handled}
+use Rattle.sv_journal.specs.declared.journal.Item.{Item}
+use Rattle.sv_journal.specs.Legal.{is_control}
 
 abbrev pub answer_of : Outcome → Answer
 answer_of Stored = answers.Sent

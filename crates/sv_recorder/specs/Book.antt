@@ -2,18 +2,18 @@
 use Rattle.std.specs.Prelude.{◌≡◌, ℕ, ◌+◌, ◌^◌, ◌<◌, ◌≤◌, Bool, false, List, [], ◌∷◌, ◌++◌, length}
 use Rattle.std.specs.Prelude.{filter, vec_capacity, if◌then◌else◌}
 use Rattle.sv_ring.specs.declared.up_writer.UpWriter.{Ghosts}
-use Rattle.sv_recorder.specs.declared.journal.Origin.{Origin}
-use Rattle.sv_recorder.specs.declared.journal.Item.{Item}
+use Rattle.sv_journal.specs.declared.journal.Origin.{Origin}
+use Rattle.sv_journal.specs.declared.journal.Item.{Item}
 use Rattle.sv_recorder.specs.declared.book.Book.{Book}
-use Rattle.sv_recorder.specs.declared.journal.Outcome.{Outcome}
+use Rattle.sv_journal.specs.declared.journal.Outcome.{Outcome}
 use Rattle.sv_recorder.specs.Answer.{Gains}
 use Rattle.sv_recorder.specs.Formed.{packet_bytes}
 use Rattle.sv_recorder.specs.Freed.{AreFreed}
-use Rattle.sv_recorder.specs.Items.{latest_first, last_moment, is_after_refused_overflow}
+use Rattle.sv_journal.specs.Items.{latest_first, last_moment, is_after_refused_overflow}
 use Rattle.sv_recorder.specs.Kept.{Keeps}
-use Rattle.sv_recorder.specs.Stream.{stream_of}
-use Rattle.sv_recorder.specs.Legal.{is_head, origins_of, IsNextStep, ticks_of}
-use Rattle.sv_recorder.specs.Clock.{clock_of}
+use Rattle.sv_journal.specs.Stream.{stream_of}
+use Rattle.sv_journal.specs.Legal.{is_head, origins_of, IsNextStep, ticks_of}
+use Rattle.sv_journal.specs.Clock.{clock_of}
 use Rattle.sv_recorder.specs.Writes.{IsPacketHere}
 
 -- the book keeps a journal that owes these answers

@@ -1,16 +1,9 @@
-pub mod Items
-pub mod Legal
-pub mod Stream
-pub mod Open
 pub mod Kept
-pub mod Section
 pub mod Freed
 pub mod Writes
 pub mod Formed
 pub mod Book
 pub mod Plain
-pub mod Clock
 pub mod Replies
-pub mod Needs
 pub mod Answer
 pub mod Recording

@@ -1,11 +1,9 @@
--- Workloads that a recorder takes so far: one writer, and nothing to describe or to ask.
-use Rattle.std.specs.Prelude.{◌≡◌, false, [], length}
+-- Workloads that a recorder takes so far: nothing is asked of it, no modules are registered, and
+-- the time is that of the counter.
+use Rattle.std.specs.Prelude.{◌≡◌, false, []}
 use Rattle.sv_workload.specs.Load.{Load}
 
 pub record IsPlain (load : Load) : Type 0 where
   pub timed : load.timed ≡ false
-  pub lines : load.lines ≡ []
-  pub tasks : load.tasks ≡ []
   pub modules : load.modules ≡ []
   pub commands : load.commands ≡ []
-  pub writer : length load.scripts ≡ 1

@@ -1,17 +1,16 @@
 -- What a write to the ring leaves.
-use Rattle.std.specs.Prelude.{◌≡◌, ℕ, ◌+◌, ◌-◌, ◌%◌, ◌≤◌, Bool, true, false, List, [], ◌∷◌, ◌++◌}
+use Rattle.std.specs.Prelude.{◌≡◌, ℕ, ◌+◌, ◌≤◌, Bool, true, false, List, [], ◌∷◌, ◌++◌}
 use Rattle.std.specs.Prelude.{length, sum_by, nat_lt, if◌then◌else◌}
-use Rattle.sv_packet.specs.Spelling.{spelling_of}
-use Rattle.sv_workload.specs.Load.{Load, period}
-use Rattle.sv_recorder.specs.declared.journal.Item.{Item}
-use Rattle.sv_recorder.specs.declared.journal.Origin.{Origin}
-use Rattle.sv_recorder.specs.declared.journal.Outcome.{Outcome}
-use Rattle.sv_recorder.specs.declared.journal.Outcome.TheVariants as outcomes
-use Rattle.sv_recorder.specs.declared.journal.Origin.TheVariants.{Call, Reply}
+use Rattle.sv_workload.specs.Load.{Load}
+use Rattle.sv_journal.specs.declared.journal.Item.{Item}
+use Rattle.sv_journal.specs.declared.journal.Origin.{Origin}
+use Rattle.sv_journal.specs.declared.journal.Outcome.{Outcome}
+use Rattle.sv_journal.specs.declared.journal.Outcome.TheVariants as outcomes
 use Rattle.sv_recorder.specs.Formed.{IsFormed}
-use Rattle.sv_recorder.specs.Items.{event_at, latest_first}
-use Rattle.sv_recorder.specs.Legal.{is_control, IsNextStep, ticks_of}
-use Rattle.sv_recorder.specs.Open.{IsDue}
+use Rattle.sv_journal.specs.Items.{latest_first}
+use Rattle.sv_journal.specs.Packets.{is_call_or_reply}
+use Rattle.sv_journal.specs.Legal.{is_control, IsNextStep, ticks_of}
+use Rattle.sv_journal.specs.Open.{IsDue}
 use Rattle.sv_recorder.specs.Freed.{wrote_if}
 use Rattle.sv_ring.specs.Ring.{Way, way_after, room_of, Moves}
 
@@ -47,17 +46,6 @@ MovesBy size sent freed way old new block stored =
     × Moves (way old) (size old) (freed old) (freed new) (sent old) block
     (wrote_if stored (room_of (size old) (sent old) (freed new)))
 
--- the spelling of an item's packet
-abbrev pub packet_block : Load → Origin → ℕ → ℕ → List ℕ
-packet_block load origin moment last = spelling_of (event_at load moment origin)
-    ((moment - last) % period load)
-
--- calls and replies hold packets
-abbrev pub is_call_or_reply : Origin → Bool
-is_call_or_reply (Call writer step) = true
-is_call_or_reply (Reply kind index) = true
-is_call_or_reply other = false
-
 -- a packet that may be recorded next
 pub record IsPacketHere (load : Load) (items : List Item) (owed : List Origin) (origin : Origin)
     (moment : ℕ) (rest : List Origin) : Type 0 where
@@ -68,7 +56,8 @@ pub record IsPacketHere (load : Load) (items : List Item) (owed : List Origin) (
   pub ticks : moment ≡ ticks_of load origin + sum_by (λ i. ticks_of load i.origin)
       (latest_first items)
 
--- a call or a reply whose packet can be formed
+-- a call of an event, or a reply, whose packet can be formed
 pub record HasPacket (load : Load) (origin : Origin) : Type 0 where
   pub telling : is_call_or_reply origin ≡ true
+  pub control : is_control load origin ≡ false
   pub formed : IsFormed load origin

@@ -1,6 +1,6 @@
 ghost use Rattle.std.specs.Prelude.{◌≡◌};
 
-use crate::journal::Outcome;
+use sv_journal::Outcome;
 
 /// What became of a step.
 #[derive(Debug, Clone, Copy, PartialEq, Eq, Drop)]

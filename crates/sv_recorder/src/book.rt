@@ -2,10 +2,11 @@
 ghost use Rattle.std.specs.Prelude.{◌≡◌, ℕ, ◌+◌, ◌^◌, ◌<◌, ◌≤◌, ◌++◌, [], ◌∷◌, true, false, nat_lt};
 ghost use Rattle.std.specs.Prelude.{if◌then◌else◌, List, length, vec_capacity};
 ghost use Rattle.sv_ring.specs.Ring.{room_of};
+ghost use Rattle.sv_workload.specs.Need.{HasShortTexts};
 ghost use Rattle.sv_recorder.specs.Plain.{IsPlain};
 ghost use Rattle.sv_recorder.specs.Writes.{Writes, MovesBy, made, outcome_if};
 
-use crate::journal::{Item, Journal, Origin, Outcome};
+use sv_journal::{Item, Journal, Origin, Outcome};
 use sv_ring::{UpWriter, Wrote};
 use sv_workload::Workload;
 
@@ -22,6 +23,7 @@ pub struct Book<'w, U: UpWriter + Drop> {
     pub last: u64,
     pub moment: u64,
     ghost plain: { IsPlain load.now },
+    ghost texts: { HasShortTexts load.now },
     ghost ring: { U.size up ≡ load.now.ring },
     ghost later: { last ≤ moment },
 }

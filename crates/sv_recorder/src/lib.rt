@@ -11,13 +11,11 @@
 
 mod answer;
 mod book;
-mod journal;
 mod packet;
 mod recorder;
 mod section;
 
 pub use answer::Answer;
-pub use journal::{Item, Journal, Kind, Origin, Outcome};
 pub use recorder::{Finished, Recorder};
 
 #[cfg(test)]

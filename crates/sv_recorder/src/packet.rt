@@ -1,15 +1,18 @@
 //! How a packet is formed, and how it is recorded: ignored, written, or written after an overflow.
-ghost use Rattle.std.specs.Prelude.{◌≡◌, ◌<◌, ◌≤◌, ◌&&◌, [], not, length};
+ghost use Rattle.std.specs.Prelude.{◌≡◌, ◌<◌, ◌≤◌, ◌&&◌, [], false, not, length};
 ghost use Rattle.sv_packet.specs.Spelling.{spelling_of};
-ghost use Rattle.sv_recorder.specs.Formed.{IsFormed, block_bytes, packet_bytes};
-ghost use Rattle.sv_recorder.specs.Items.{event_at, is_stop_reply};
+ghost use Rattle.sv_workload.specs.Need.{HasShortTexts};
+ghost use Rattle.sv_journal.specs.Legal.{is_control};
+ghost use Rattle.sv_recorder.specs.Formed.{IsFormed, IsThere, block_bytes, packet_bytes};
+ghost use Rattle.sv_journal.specs.Items.{event_at, is_stop_reply};
 ghost use Rattle.sv_recorder.specs.Plain.{IsPlain};
-ghost use Rattle.sv_recorder.specs.Writes.{HasPacket, packet_block};
+ghost use Rattle.sv_journal.specs.Packets.{packet_block};
+ghost use Rattle.sv_recorder.specs.Writes.{HasPacket};
 
 use crate::book::{Book, outcome_of};
-use crate::journal::{Kind, Origin, Outcome};
+use sv_journal::{Kind, Origin, Outcome};
 use sv_packet::{Event, encode, encode_flat};
-use sv_prim::{Buf, delta};
+use sv_prim::{Buf, delta, shrink};
 use sv_ring::UpWriter;
 use sv_workload::{Act, Workload};
 
@@ -29,12 +32,12 @@ fn form_step(load: &Workload, writer: u32, step: u32, ticks: u32, block: &mut Bu
 }
 
 /// The packet of a reply at a moment.
-fn form_reply(load: &Workload, kind: Kind, moment: u64, ticks: u32, block: &mut Buf)
-    requires formed { IsFormed load.now (Origin.Reply kind 0) }
+fn form_reply(load: &Workload, kind: Kind, index: u32, moment: u64, ticks: u32, block: &mut Buf)
+    requires there { IsThere load.now kind index }
     requires plain { IsPlain load.now }
     requires empty { block.old.items ≡ [] }
     ensures block { block.new.items
-        ≡ spelling_of (event_at load.now moment (Origin.Reply kind 0)) ticks }
+        ≡ spelling_of (event_at load.now moment (Origin.Reply kind index)) ticks }
 {
     match kind {
         Kind::TraceStart => encode_flat(10, &[], &[], ticks, block),
@@ -45,12 +48,21 @@ fn form_reply(load: &Workload, kind: Kind, moment: u64, ticks: u32, block: &mut 
             ticks,
             block,
         ),
+        Kind::Line => encode_flat(14, &[], load.lines()[index as usize].bytes(), ticks, block),
         Kind::Systime => encode_flat(12, &[(moment % (1 << 32)) as u32], &[], ticks, block),
+        Kind::Task => {
+            let task = &load.tasks()[index as usize];
+            let id = shrink(task.id, load.base(), load.shift());
+            encode_flat(9, &[id, task.priority], task.name.bytes(), ticks, block)
+        }
+        Kind::Stack => {
+            let task = &load.tasks()[index as usize];
+            let id = shrink(task.id, load.base(), load.shift());
+            let numbers = [id, task.stack_base, task.stack_size, task.extra];
+            encode_flat(21, &numbers, &[], ticks, block)
+        }
         Kind::ModuleCount => encode_flat(27, &[0], &[], ticks, block),
         Kind::TraceStop => encode_flat(11, &[], &[], ticks, block),
-        Kind::Line => unreachable!(),
-        Kind::Task => unreachable!(),
-        Kind::Stack => unreachable!(),
         Kind::Module => unreachable!(),
     }
 }
@@ -61,6 +73,8 @@ fn form_reply(load: &Workload, kind: Kind, moment: u64, ticks: u32, block: &mut 
 fn form(load: &Workload, origin: Origin, moment: u64, last: u64, block: &mut Buf)
     requires formed { IsFormed load.now origin }
     requires plain { IsPlain load.now }
+    requires texts { HasShortTexts load.now }
+    requires event { is_control load.now origin ≡ false }
     requires later { last ≤ moment }
     ensures block { block.new.items ≡ packet_block load.now origin moment last }
     ensures some { 0 < length block.new.items }
@@ -71,7 +85,7 @@ fn form(load: &Workload, origin: Origin, moment: u64, last: u64, block: &mut Buf
     match origin {
         Origin::Call { writer, step } => form_step(load, writer, step, ticks, block),
         Origin::Overflow { count } => encode(&Event::Overflow { count }, ticks, block),
-        Origin::Reply { kind, .. } => form_reply(load, kind, moment, ticks, block),
+        Origin::Reply { kind, index } => form_reply(load, kind, index, moment, ticks, block),
         Origin::Sync => unreachable!(),
         Origin::Command { .. } => unreachable!(),
     }

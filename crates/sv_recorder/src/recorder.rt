@@ -4,19 +4,19 @@ ghost use Rattle.std.specs.Prelude.{drop};
 ghost use Rattle.sv_workload.specs.Load.{script_of};
 ghost use Rattle.sv_workload.specs.Need.{need_bytes};
 ghost use Rattle.sv_recorder.specs.Answer.{IsAnswered};
-ghost use Rattle.sv_recorder.specs.Clock.{clock_of};
+ghost use Rattle.sv_journal.specs.Clock.{clock_of};
 ghost use Rattle.sv_recorder.specs.Freed.{AreFreed};
-ghost use Rattle.sv_recorder.specs.Items.{latest_first, is_call_of, is_on, pending_at};
-ghost use Rattle.sv_recorder.specs.Legal.{IsLegal};
+ghost use Rattle.sv_journal.specs.Items.{latest_first, is_call_of, is_on, pending_at};
+ghost use Rattle.sv_journal.specs.Legal.{IsLegal};
 ghost use Rattle.sv_recorder.specs.Plain.{IsPlain};
-ghost use Rattle.sv_recorder.specs.Section.{IsSection};
-ghost use Rattle.sv_recorder.specs.Stream.{stream_of};
+ghost use Rattle.sv_journal.specs.Section.{IsSection};
+ghost use Rattle.sv_journal.specs.Stream.{stream_of};
 
 use crate::answer::Answer;
 use crate::book::Book;
-use crate::journal::Journal;
 use std::alloc::Global;
 use std::marker::Model;
+use sv_journal::Journal;
 use sv_prim::{Buf, NoMemory};
 use sv_ring::{PlainRing, UpWriter};
 use sv_workload::Workload;
@@ -29,7 +29,8 @@ use sv_workload::Workload;
 #[derive(Drop)]
 pub struct Recorder<'w, U: UpWriter + Drop> {
     book: Book<'w, U>,
-    place: u32,
+    /// How many steps each writer has taken.
+    places: [u32; 16],
     /// The packet that was formed last: the next one is formed in its place.
     block: Buf,
 }
@@ -53,7 +54,7 @@ impl<'w, U: UpWriter + Drop> Model for Recorder<'w, U> {
 
     ghost invariant = { λ r. IsRecorder r.book.load.now r.book.journal.items
         (U.sent r.book.up) (U.freed r.book.up) (U.limit r.book.up)
-        r.book.on r.book.pending r.book.last r.book.moment r.place (vec_capacity r.book.journal) };
+        r.book.on r.book.pending r.book.last r.book.moment r.places (vec_capacity r.book.journal) };
 }
 
 /// What is left of a recorder: its journal, and its end of the ring.
@@ -64,7 +65,7 @@ pub struct Finished<U: UpWriter + Drop> {
 }
 
 impl<'w, U: UpWriter + Drop> Recorder<'w, U> {
-    ghost use Rattle.sv_recorder.specs.declared.journal.Origin.TheVariants.{Call};
+    ghost use Rattle.sv_journal.specs.declared.journal.Origin.TheVariants.{Call};
 
     /// A recorder that has recorded nothing and is off, over a ring that has sent nothing. Room for
     /// all items of the workload's journal is reserved; after NoMemory the ring is dropped.
@@ -100,7 +101,7 @@ impl<'w, U: UpWriter + Drop> Recorder<'w, U> {
         };
         Ok(Recorder {
             book,
-            place: 0,
+            places: [0; 16],
             block: Buf::new(),
         })
     }
@@ -121,7 +122,7 @@ impl<'w, U: UpWriter + Drop> Recorder<'w, U> {
         ensures { result + count_by (λ i. is_call_of writer i.origin) self.now.items
             ≡ length (script_of self.now.load writer) }
     {
-        self.book.load.steps(writer).len() as u32 - self.place
+        self.book.load.steps(writer).len() as u32 - self.places[writer as usize]
     }
 
     /// Whether the recorder is on.
@@ -177,14 +178,14 @@ impl<'w, U: UpWriter + Drop> Recorder<'w, U> {
     {
         let load = self.book.load;
         let steps = load.steps(writer);
-        let place = self.place;
+        let place = self.places[writer as usize];
         if place as usize == steps.len() {
             return None;
         }
         let step = &steps[place as usize];
         self.book.advance(step.advance);
         let answer = self.book.take(writer, place, step, &mut self.block);
-        self.place = place + 1;
+        self.places[writer as usize] = place + 1;
         Some(answer)
     }
 

@@ -1,4 +1,4 @@
-ghost use Rattle.std.specs.Prelude.{◌≡◌, ◌<◌, length, IfOk};
+ghost use Rattle.std.specs.Prelude.{IfOk};
 ghost use Rattle.sv_recorder.specs.Plain.{IsPlain};
 
 use super::*;
@@ -15,40 +15,37 @@ const START: [u8; 34] = [
     2, 0, 12, 0, 0, 27, 1, 0, 0,
 ];
 
-/// The workload that the text says, which is plain and has a ring of 1024 bytes.
+/// The workload that the text says, which is plain.
 fn plain(alloc: Global, text: &[u8]) -> Result<Workload, Fail>
     ensures plain { IfOk result (λ load. IsPlain load) }
-    ensures ring { IfOk result (λ load. load.ring ≡ 1024) }
-    ensures writer { IfOk result (λ load. 0 < length load.scripts) }
 {
     if text.len() >= 1 << 32 {
         return Err(Fail::from("a text of 2^32 bytes"));
     }
-    let load = parse(alloc, text)?;
-    if load.writers() != 1 || !load.tasks().is_empty() || load.ring() != 1024 {
-        return Err(Fail::from("another workload"));
-    }
-    Ok(load)
+    Ok(parse(alloc, text)?)
 }
 
-/// Takes all steps, with a read of 20 bytes after the step of this number, counted from 1. Gives
-/// what became of the steps of the numbers from `from` on.
+/// Takes steps of these writers, over and over, until one of them has none, with a read of 20 bytes
+/// after the step of this number, counted from 1. Gives what became of the steps of the numbers
+/// from `from` on.
 fn run(
     alloc: Global,
     load: &Workload,
+    writers: &[u32],
     read_after: usize,
     from: usize,
     answers: &mut Vec<Answer>,
 ) -> Result<Finished<PlainRing>, NoMemory>
     requires plain { IsPlain load.now }
-    requires ring { load.now.ring ≡ 1024 }
-    requires writer { 0 < length load.now.scripts }
 {
-    let up = PlainRing::new(alloc, 1024, load.need().bytes)?;
+    let up = PlainRing::new(alloc, load.ring(), load.need().bytes)?;
     let mut recorder = Recorder::new(alloc, load, up)?;
     let mut buf = [0; 20];
-    for count in 1..400 {
-        let Some(answer) = recorder.section(0) else {
+    for (count, writer) in (1..400).zip(writers.iter().cycle()) {
+        if *writer >= load.writers() {
+            break;
+        }
+        let Some(answer) = recorder.section(*writer) else {
             break;
         };
         if count == read_after {
@@ -91,7 +88,7 @@ fn streams_without_a_refusal(rt: HostRuntime) -> Result<(), Fail> {
     ] {
         let load = plain(alloc, text.as_bytes())?;
         let mut answers = Vec::new(alloc);
-        let done = run(alloc, &load, 0, 0, &mut answers)?;
+        let done = run(alloc, &load, &[0], 0, 0, &mut answers)?;
         let mut want = Vec::new(alloc);
         if let Some(tick) = begins {
             let mut start = START;
@@ -112,7 +109,7 @@ fn three_marks_refused_and_counted(rt: HostRuntime) -> Result<(), Fail> {
     let text = marks(alloc, 333)?;
     let load = plain(alloc, &text)?;
     let mut answers = Vec::new(alloc);
-    let done = run(alloc, &load, 333, 330, &mut answers)?;
+    let done = run(alloc, &load, &[0], 333, 330, &mut answers)?;
     assert_eq!(rt;
         answers.as_slice(),
         [
@@ -136,5 +133,30 @@ fn three_marks_refused_and_counted(rt: HostRuntime) -> Result<(), Fail> {
 
     // 334 steps, the 5 items of the start, and an overflow before each of the last three marks.
     assert_eq!(rt; done.journal.items().len(), 342);
+    Ok(())
+}
+
+/// What a start tells of a task A at 0x20000004, of priority 1, with a stack of 1024 bytes at
+/// 0x20001000: TASK_INFO and STACK_INFO.
+const TASK: [u8; 17] = [
+    9, 1, 1, 1, 65, 0, 21, 1, 128, 160, 128, 128, 2, 128, 8, 0, 0,
+];
+
+#[test]
+fn two_writers_and_a_task(rt: HostRuntime) -> Result<(), Fail> {
+    let alloc = rt.alloc();
+    let text = b"ring 64\ntask 536870916 1 536875008 1024 0 A\n\
+        writer\n0 start\n2 mark 7\nwriter\n1 mark 5\n1 mark 6\n";
+    let load = plain(alloc, text)?;
+    let mut answers = Vec::new(alloc);
+    let done = run(alloc, &load, &[0, 1], 0, 0, &mut answers)?;
+    let mut want = START[..30].to_vec(alloc)?;
+    want.extend_from_slice(&TASK)?;
+    want.extend_from_slice(&START[30..])?;
+    want.extend_from_slice(&[15, 5, 1, 15, 7, 2, 15, 6, 1])?;
+    assert_eq!(rt; done.up.bytes(), want.as_slice());
+
+    // The start, a sync and six packets that describe the target, and three marks.
+    assert_eq!(rt; done.journal.items().len(), 11);
     Ok(())
 }

@@ -7,7 +7,7 @@ use std::io::ErrorKind;
 use std::process::ExitCode;
 use sv_base::{FileSource, OutSink, Stream};
 use sv_cli::{Status, offline, say};
-use sv_recorder::Journal;
+use sv_journal::Journal;
 
 /// The texts as words.
 fn words(alloc: Global, texts: &[String]) -> Result<Vec<&str>, AllocError> {

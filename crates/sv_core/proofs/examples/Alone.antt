@@ -1,12 +1,12 @@
 -- A simulated journal worked out by hand, and its turns.
 use Rattle.std.proofs.Common.{◌≡◌, false, List, [], ◌∷◌, refl, rules}
 use Rattle.sv_workload.specs.Load.{Load}
-use Rattle.sv_recorder.specs.declared.journal.Kind.TheVariants as kinds
-use Rattle.sv_recorder.specs.declared.journal.Origin.TheVariants.{Call, Sync, Reply}
-use Rattle.sv_recorder.specs.declared.journal.Outcome.TheVariants.{Stored, Handled}
-use Rattle.sv_recorder.specs.declared.journal.Item.{Item}
-use Rattle.sv_recorder.specs.Legal.{IsWhole}
-use Rattle.sv_recorder.proofs.Shared.{whole_of}
+use Rattle.sv_journal.specs.declared.journal.Kind.TheVariants as kinds
+use Rattle.sv_journal.specs.declared.journal.Origin.TheVariants.{Call, Sync, Reply}
+use Rattle.sv_journal.specs.declared.journal.Outcome.TheVariants.{Stored, Handled}
+use Rattle.sv_journal.specs.declared.journal.Item.{Item}
+use Rattle.sv_journal.specs.Legal.{IsWhole}
+use Rattle.sv_journal.proofs.Shared.{whole_of}
 use Rattle.sv_core.specs.Turns.{Turns}
 use Rattle.sv_core.specs.Turns.{turns_of}
 use Rattle.sv_core.specs.Simulated.{IsSimulated}

@@ -3,15 +3,14 @@
 use Rattle.std.proofs.Common.{false, List, [], ◌∷◌, refl, arith, rules}
 use Rattle.sv_workload.specs.declared.load.Step.{Step}
 use Rattle.sv_workload.specs.Load.{Load}
-use Rattle.sv_recorder.specs.declared.journal.Kind.TheVariants as kinds
-use Rattle.sv_recorder.specs.declared.journal.Origin.TheVariants.{Call, Sync, Reply, Overflow}
-use Rattle.sv_recorder.specs.declared.journal.Outcome.TheVariants.{Stored, Refused, Handled}
-use Rattle.sv_recorder.specs.declared.journal.Item.{Item}
-use Rattle.sv_recorder.specs.Legal.{IsLegal}
+use Rattle.sv_journal.specs.declared.journal.Kind.TheVariants as kinds
+use Rattle.sv_journal.specs.declared.journal.Origin.TheVariants.{Call, Sync, Reply, Overflow}
+use Rattle.sv_journal.specs.declared.journal.Outcome.TheVariants.{Stored, Refused, Handled}
+use Rattle.sv_journal.specs.declared.journal.Item.{Item}
+use Rattle.sv_journal.specs.Legal.{IsLegal, IsWhole}
+use Rattle.sv_journal.proofs.Shared.{whole_of}
 use Rattle.sv_core.specs.Simulated.{IsSimulated}
 use Rattle.sv_core.proofs.examples.Short.{at, start, mark, Same}
-use Rattle.sv_core.proofs.LatestSection.{IsUnderWay}
-use Rattle.sv_core.proofs.OneWriter.{simulated-one, whole-one}
 
 abbrev pub script : List Step
 script = start 0 ∷ mark 1 5 ∷ []
@@ -50,13 +49,16 @@ items =
 legal : IsLegal load items
 legal = search rules
 
-two : IsUnderWay load items 2
-two = record { turns = refl; calls = refl; own = refl; fresh = search rules }
+whole : IsWhole load items
+whole = whole_of load items refl refl refl
 
 simulated : IsSimulated load items
 simulated =
-    simulated-one load script items refl refl refl legal
-    (whole-one load script items refl refl legal two) two
+    record {
+      legal = legal;
+      whole = whole;
+      ordered = record { steps = refl; freed = search rules };
+    }
 
 -- as if nothing had been read
 abbrev unread : List Item

@@ -2,27 +2,27 @@
 use Rattle.std.proofs.Common.{◌≡◌, ◌<◌, ◌≤◌, List, [], ◌∷◌, length, replicate, refl, arith, rules}
 use Rattle.sv_workload.specs.Load.{Load}
 use Rattle.sv_workload.specs.Need.{need_items, need_bytes}
-use Rattle.sv_recorder.specs.declared.journal.Kind.TheVariants.{TraceStart, Init, Line, Systime}
-use Rattle.sv_recorder.specs.declared.journal.Kind.TheVariants.{ModuleCount}
-use Rattle.sv_recorder.specs.declared.journal.Origin.TheVariants.{Call, Sync, Reply}
-use Rattle.sv_recorder.specs.declared.journal.Outcome.TheVariants.{Stored, Handled}
-use Rattle.sv_recorder.specs.declared.journal.Item.{Item}
-use Rattle.sv_recorder.specs.Legal.{IsLegal, group_of}
-use Rattle.sv_recorder.specs.Stream.{stream_of}
-use Rattle.sv_recorder.proofs.examples.Words.{at, load_of, start}
-use Rattle.sv_recorder.proofs.examples.Refusals as refusals
+use Rattle.sv_journal.specs.declared.journal.Kind.TheVariants.{TraceStart, Init, Line, Systime}
+use Rattle.sv_journal.specs.declared.journal.Kind.TheVariants.{ModuleCount}
+use Rattle.sv_journal.specs.declared.journal.Origin.TheVariants.{Call, Sync, Reply}
+use Rattle.sv_journal.specs.declared.journal.Outcome.TheVariants.{Stored, Handled}
+use Rattle.sv_journal.specs.declared.journal.Item.{Item}
+use Rattle.sv_journal.specs.Legal.{IsLegal, group_of}
+use Rattle.sv_journal.specs.Stream.{stream_of}
+use Rattle.sv_journal.proofs.Shared.{at, load_of, start}
+use Rattle.sv_journal.proofs.Shared.{refused_load, refused_items, refused_legal}
 use Rattle.sv_need.specs.Weights.{items_ahead, bytes_ahead}
 use Rattle.sv_need.proofs.ItemCounts.{within_items}
 
 -- the group of a start, with an overflow before each of its four packets: 2 + 2 * 4 items, 27 + 156
 -- * 3 bytes
-a_start : (items_ahead refusals.load (group_of refusals.load (Call 0 0)) ≡ 10)
-    × (bytes_ahead refusals.load (group_of refusals.load (Call 0 0)) ≡ 495)
+a_start : (items_ahead refused_load (group_of refused_load (Call 0 0)) ≡ 10)
+    × (bytes_ahead refused_load (group_of refused_load (Call 0 0)) ≡ 495)
 a_start = (refl, refl)
 
 -- the law at a journal with refused packets and overflows: 22 items of at most 52
-counted : length refusals.items ≤ need_items refusals.load
-counted = within_items refusals.load refusals.items refusals.legal
+counted : length refused_items ≤ need_items refused_load
+counted = within_items refused_load refused_items refused_legal
 
 -- a line of a thousand bytes
 abbrev long : Load

@@ -3,7 +3,7 @@
 use Rattle.std.proofs.Common.{◌≡◌, ℕ, ◌<◌, [], ◌∷◌, ◌⊎◌, inl, inr, refl, arith, rules}
 use Rattle.sv_ring.specs.Ring.{Way, Still, Oldest, Plan, Beside}
 use Rattle.sv_recorder.specs.Freed.{AreFreed}
-use Rattle.sv_recorder.proofs.examples.Alone.{load, items}
+use Rattle.sv_journal.proofs.Shared.{alone_load as load, alone_items as items}
 
 apart : (n m : ℕ) → n ≡ m → (n < m) ⊎ (m < n) → ⊥
 apart n m same (inl less) = omega (arith, same, less)

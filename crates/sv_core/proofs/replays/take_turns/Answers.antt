@@ -1,5 +1,5 @@
 use Rattle.std.proofs.Common.{false, refl, ◌∙◌, subst, arith}
-use Rattle.sv_recorder.specs.Legal.{IsLegal}
+use Rattle.sv_journal.specs.Legal.{IsLegal}
 use Rattle.sv_core.specs.declared.turns.StepTurn.{StepTurn}
 use Rattle.sv_core.specs.Used.{IsCounted, IsUsingOthers}
 use Rattle.sv_core.proofs.TurnsTaken.{fails-writer, fails-command, fails-through, taken}

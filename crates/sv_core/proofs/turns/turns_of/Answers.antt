@@ -1,6 +1,6 @@
 use Rattle.std.proofs.Common.{true, false, sym, ap, ◌∙◌, subst, arith, append-nil}
-use Rattle.sv_recorder.specs.Items.{latest_first}
-use Rattle.sv_recorder.specs.Legal.{EachItem}
+use Rattle.sv_journal.specs.Items.{latest_first}
+use Rattle.sv_journal.specs.Legal.{EachItem}
 use Rattle.sv_core.specs.Turned.{RisesLittle}
 use Rattle.sv_core.proofs.Gathered.{turned-at, rises-at}
 use Rattle.sv_core.proofs.turns.turns_of.Goals.{then-is_written+in-Ok, else-is_written}

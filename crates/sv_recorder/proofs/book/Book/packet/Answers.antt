@@ -1,9 +1,9 @@
 use Rattle.std.proofs.Common.{refl, arith}
 use Rattle.std.specs.Prelude.{not}
-use Rattle.sv_recorder.specs.declared.journal.Outcome.TheVariants.{Ignored}
+use Rattle.sv_journal.specs.declared.journal.Outcome.TheVariants.{Ignored}
 use Rattle.sv_recorder.specs.Book.{head_if}
 use Rattle.sv_recorder.specs.Formed.{packet_bytes}
-use Rattle.sv_recorder.specs.Items.{latest_first, is_stop_reply}
+use Rattle.sv_journal.specs.Items.{latest_first, is_stop_reply}
 use Rattle.sv_recorder.proofs.Entries.{and-not, headed_one, gains_one}
 use Rattle.sv_recorder.proofs.Holds.{ignored-holds}
 use Rattle.sv_recorder.proofs.Freed.{ignored_unwritten}

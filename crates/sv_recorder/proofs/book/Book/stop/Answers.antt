@@ -1,7 +1,7 @@
-use Rattle.std.proofs.Common.{refl, ◌∷◌, []}
-use Rattle.sv_recorder.specs.declared.journal.Origin.TheVariants.{Call}
-use Rattle.sv_recorder.specs.declared.journal.Outcome.TheVariants.{Handled}
-use Rattle.sv_recorder.proofs.Goes.{goes-note, goes-then, goes-to}
+use Rattle.std.proofs.Common.{refl}
+use Rattle.sv_journal.specs.declared.journal.Origin.TheVariants.{Call}
+use Rattle.sv_journal.specs.declared.journal.Outcome.TheVariants.{Handled}
+use Rattle.sv_recorder.proofs.Goes.{goes-note}
 use Rattle.sv_recorder.proofs.Entries.{headed_one}
 use Rattle.sv_recorder.proofs.Books.{stop-holds}
 use Rattle.sv_recorder.proofs.book.Book.stop.Goals as goal
@@ -17,16 +17,3 @@ returns-clause-kept g c =
     stop-holds old c.note.new.self c.packet.new.self c.args.writer c.args.step
     c.note.ensures.stays c.note.ensures.up c.note.ensures.item c.requires.act c.packet.ensures.kept
     noted
-
-pub returns-clause-goes : goal.returns-clause-goes
-returns-clause-goes g c =
-    let u = g.U.UpWriter in
-    let old = c.args.self.now in
-    let noted = goes-note old c.note.new.self (Call c.args.writer c.args.step) Handled
-    c.note.ensures.stays c.note.ensures.up c.note.ensures.stays.capacity c.note.ensures.item
-    (headed_one (Call c.args.writer c.args.step) old.moment (u.freed old.up) Handled) refl refl
-    refl in
-    let two = goes-then old c.note.new.self c.packet.new.self (Call c.args.writer c.args.step ∷ [])
-    [] 1 2 0 17 noted c.packet.ensures.records.goes in
-    goes-to old c.packet.new.self _ (Call c.args.writer c.args.step ∷ []) 3 17 two refl refl refl
-    refl refl two.pending

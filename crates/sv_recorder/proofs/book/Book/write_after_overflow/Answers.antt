@@ -1,6 +1,6 @@
 use Rattle.std.proofs.Common.{◌∙◌, arith, refl, ap}
-use Rattle.sv_recorder.specs.declared.journal.Origin.TheVariants.{Overflow}
-use Rattle.sv_recorder.specs.declared.journal.Outcome.TheVariants.{Stored, Refused}
+use Rattle.sv_journal.specs.declared.journal.Origin.TheVariants.{Overflow}
+use Rattle.sv_journal.specs.declared.journal.Outcome.TheVariants.{Stored, Refused}
 use Rattle.sv_recorder.specs.Book.{head_if}
 use Rattle.sv_recorder.specs.Formed.{packet_bytes, block_bytes, overflow_bytes}
 use Rattle.sv_recorder.specs.Writes.{made, outcome_if}
@@ -25,7 +25,7 @@ write-stored-requires-clause-ready g c =
     let stays = c.write.ensures.stays in
     let w = rw c.if-not-write.false at c.write.ensures.writes in
     ready_after old c.write.new.self c.args.origin c.deref.result.now c.deref-2.result.now
-    ready c.requires.packet.formed stays stays.same stays.capacity w
+    ready c.requires.packet stays stays.same stays.capacity w
     (as_long c.deref.result.now _ overflow_bytes c.deref.ensures.0 c.form.ensures.short)
     (as_long c.deref-2.result.now _ (block_bytes old.load.now c.args.origin) c.deref-2.ensures.0
     (rw c.write.ensures.stays.load at c.form-2.ensures.short))
@@ -60,7 +60,7 @@ returns-clause-records g c =
           (as_long c.deref.result.now _ overflow_bytes c.deref.ensures.0 c.form.ensures.short)
           (as_long c.deref-2.result.now _ (block_bytes c.args.self.now.load.now c.args.origin)
           c.deref-2.ensures.0 (rw c.write.ensures.stays.load at c.form-2.ensures.short))
-          c.requires.packet.telling c.requires.packet.formed;
+          c.requires.packet.telling c.requires.packet;
       on = c.settle.ensures.on ∙ c.write-stored.ensures.stays.on ∙ c.write.ensures.stays.on;
       item = gains_two old.journal.items c.write.new.self.journal.items
           c.settle.new.self.journal.items (made (Overflow old.pending) old.moment

@@ -23,7 +23,7 @@ returns-clause-records g c =
           w.moves
           (c.deref.ensures.0 ∙ c.form.ensures.block)
           (as_long c.deref.result.now _ _ c.deref.ensures.0 c.form.ensures.short)
-          c.requires.packet.telling c.requires.packet.formed;
+          c.requires.packet.telling c.requires.packet;
       on = c.settle.ensures.on ∙ w.stays.on;
       item = gains_one c.args.self.now.journal.items c.settle.new.self.journal.items c.args.origin
           c.args.self.now.moment (u.freed c.write-stored.new.self.up)

@@ -6,9 +6,8 @@ pub invariant_of-result : goal.invariant_of-result
 invariant_of-result g c =
     fresh c.args.load.now c.of.result.items (g.U.UpWriter.sent c.args.up)
     (g.U.UpWriter.freed c.args.up) (g.U.UpWriter.limit c.args.up) _
-    c.requires.plain c.need-need.ensures.limits (ap (λ v. v.items) c.of.ensures
+    c.need-need.ensures.limits (ap (λ v. v.items) c.of.ensures
     ∙ c.in-Ok.ensures.items) c.requires.sent c.requires.freed c.requires.limit
-    (omega (arith, c.need-need.ensures.items, c.need-need.ensures.few))
     (omega (
       arith,
       c.need-need.ensures.items,

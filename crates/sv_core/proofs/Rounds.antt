@@ -1,0 +1,347 @@
+-- The rounds of an order, as they are taken writer by writer.
+use Rattle.std.proofs.Common.{◌≡◌, ℕ, zero, suc, ◌+◌, ◌-◌, ◌<◌, ◌≤◌, min, Bool, true, false, cond}
+use Rattle.std.proofs.Common.{List, [], ◌∷◌, ◌++◌, length, reverse, flat_map, replicate, take, ◌⊎◌}
+use Rattle.std.proofs.Common.{inl, inr, refl, sym, ap, ◌∙◌, subst, arith, rules, append_assoc}
+use Rattle.std.proofs.Common.{append-nil}
+use Rattle.std.specs.Prelude.{count_by, sum_by, nat_lt, ◌==◌}
+use Rattle.std.specs.List.{enumerate_from}
+use Rattle.std.proofs.Math.Seq.{take-suc}
+use Rattle.std.proofs.lemmas.List.{take_all, length-take-le}
+use Rattle.std.proofs.lemmas.List.Concat.{flat_map-append}
+use Rattle.std.proofs.lemmas.List.Sums.{sum_by-cons, get_or-le-sum_by}
+use Rattle.std.proofs.lemmas.Bool.{cases_lt}
+use Rattle.sv_workload.specs.declared.load.Step.{Step}
+use Rattle.sv_workload.specs.Load.{Load, script_of}
+use Rattle.sv_workload.specs.Need.{steps_in}
+use Rattle.sv_core.specs.Order.{Turn, Takes_step, Reads_all, Sends, is_step_of, is_send}
+use Rattle.sv_core.specs.Order.{is_possible}
+use Rattle.sv_core.specs.Order.{scheduled, line_turns, sends_left, count_up, round_of}
+use Rattle.sv_core.specs.Order.{rounds_of, order_of}
+use Rattle.sv_core.specs.Played.{with_step, played_rounds}
+use Rattle.sv_core.proofs.Counts.{lt_true, lt_false, count-cons}
+use Rattle.sv_core.proofs.TurnCounts.{count-append, count-reverse}
+use Rattle.sv_core.proofs.OrderParts.{count_one, count_possible, within}
+
+-- how many steps of a writer the schedule takes
+abbrev scheduled_of : Load → ℕ → ℕ
+scheduled_of load writer = count_by (is_step_of writer) (scheduled load)
+
+-- no more than there are
+scheduled-within : (load : Load) (writer : ℕ)
+    → scheduled_of load writer ≤ length (script_of load writer)
+scheduled-within load writer =
+    omega (arith, count_possible load writer (reverse (flat_map line_turns load.schedule)))
+
+-- ONE ROUND
+
+-- what a writer does in a round
+abbrev turns_in : Load → ℕ → ℕ × List Step → List Turn
+turns_in load round e =
+    cond (nat_lt (count_by (is_step_of e.0) (scheduled load) + round) (length e.1))
+    (Takes_step e.0 ∷ Reads_all ∷ []) []
+
+-- a round as far as so many writers
+abbrev pub round_part : Load → ℕ → ℕ → List Turn
+round_part load round writers =
+    flat_map (turns_in load round) (enumerate_from 0 (take writers load.scripts))
+
+pub part_all : (load : Load) (round : ℕ)
+    → round_part load round (length load.scripts) ≡ round_of load round
+part_all load round =
+    ap (λ (ss : List (List Step)). flat_map (turns_in load round) (enumerate_from 0 ss))
+    (take_all (length load.scripts) load.scripts (omega arith))
+
+-- one more element
+enumerate-push : {X : Type 0} (n : ℕ) (xs : List X) (x : X)
+    → enumerate_from n (xs ++ x ∷ []) ≡ enumerate_from n xs ++ (n + length xs, x) ∷ []
+enumerate-push n [] x = ap (λ m. (m, x) ∷ []) (none n) where
+  none : (n : ℕ) → n ≡ n + 0
+  none n = omega arith
+enumerate-push n (y ∷ xs) x =
+    ap (λ es. (n, y) ∷ es)
+    (enumerate-push (n + 1) xs x
+    ∙ ap (λ m. enumerate_from (n + 1) xs ++ (m, x) ∷ []) (further n (length xs))) where
+      further : (a b : ℕ) → (a + 1) + b ≡ a + suc b
+      further a b = omega arith
+
+-- one more writer
+pub part_more : (load : Load) (round writer : ℕ) → writer < length load.scripts
+    → round_part load round (suc writer)
+    ≡ round_part load round writer ++ turns_in load round (writer, script_of load writer)
+part_more load round writer below =
+    ap (λ (ss : List (List Step)). flat_map (turns_in load round) (enumerate_from 0 ss))
+    (take-suc load.scripts writer [] below)
+    ∙ (ap (flat_map (turns_in load round))
+    (enumerate-push 0 (take writer load.scripts) (script_of load writer))
+    ∙ (flat_map-append (turns_in load round) (enumerate_from 0 (take writer load.scripts))
+    ((0 + length (take writer load.scripts), script_of load writer) ∷ [])
+    ∙ ap (λ ts. round_part load round writer ++ ts)
+    (append-nil
+    (turns_in load round (0 + length (take writer load.scripts), script_of load writer))
+    ∙ ap (λ (n : ℕ). turns_in load round (n, script_of load writer)) number))) where
+      number : 0 + length (take writer load.scripts) ≡ writer
+      number = omega (arith, length-take-le writer load.scripts (omega (arith, below)))
+
+-- a writer takes a step exactly in its turn
+count_turns : (load : Load) (round writer own : ℕ) (script : List Step)
+    → count_by (is_step_of own) (turns_in load round (writer, script))
+    ≡ cond (writer == own)
+    (cond (nat_lt (scheduled_of load writer + round) (length script)) 1 0) 0
+count_turns load round writer own script =
+    at (nat_lt (scheduled_of load writer + round) (length script)) (writer == own) refl where
+      at : (b c : Bool) → (writer == own) ≡ c
+          → count_by (is_step_of own) (cond b (Takes_step writer ∷ Reads_all ∷ []) [])
+          ≡ cond c (cond b 1 0) 0
+      at true c e =
+          count-cons (is_step_of own) (Takes_step writer) (Reads_all ∷ [])
+          ∙ (ap (λ n. cond (writer == own) 1 0 + n) (count_one (is_step_of own) Reads_all)
+          ∙ (ap (λ d. cond d 1 0 + 0) e ∙ one c)) where
+            one : (c : Bool) → cond c 1 0 + 0 ≡ cond c 1 0
+            one true = omega arith
+            one false = omega arith
+      at false true e = refl
+      at false false e = refl
+
+-- of the writers before this one, each that is not through
+count_part : (load : Load) (round own writers : ℕ) → writers ≤ length load.scripts
+    → count_by (is_step_of own) (round_part load round writers)
+    ≡ cond (nat_lt own writers)
+    (cond (nat_lt (scheduled_of load own + round) (length (script_of load own))) 1 0) 0
+count_part load round own zero h =
+    ap (λ b. cond b (cond (nat_lt (scheduled_of load own + round)
+    (length (script_of load own))) 1 0) 0) (sym (lt_false own 0 (omega arith)))
+count_part load round own (suc writer) h =
+    ap (count_by (is_step_of own)) (part_more load round writer (omega (arith, h)))
+    ∙ (count-append (is_step_of own) (round_part load round writer)
+    (turns_in load round (writer, script_of load writer))
+    ∙ (ap (λ n. n + count_by (is_step_of own) (turns_in load round (writer, script_of load writer)))
+    (count_part load round own writer (omega (arith, h)))
+    ∙ (ap (λ n. cond (nat_lt own writer) (due own) 0 + n)
+    (count_turns load round writer own (script_of load writer))
+    ∙ at (writer == own) refl))) where
+      due : ℕ → ℕ
+      due w = cond (nat_lt (scheduled_of load w + round) (length (script_of load w))) 1 0
+
+      at : (b : Bool) → (writer == own) ≡ b
+          → cond (nat_lt own writer) (due own) 0 + cond b (due writer) 0
+          ≡ cond (nat_lt own (suc writer)) (due own) 0
+      at true e =
+          let same : writer ≡ own = search (rules, e) in
+          ap (λ c. cond c (due own) 0 + due writer)
+          (lt_false own writer (omega (arith, same)))
+          ∙ (omega arith
+          ∙ (ap due same
+          ∙ ap (λ c. cond c (due own) 0)
+          (sym (lt_true own (suc writer) (omega (arith, same))))))
+      at false e =
+          ap (λ c. cond c (due own) 0 + 0) (apart (cases_lt own writer) other)
+          ∙ sides (cond (nat_lt own (suc writer)) (due own) 0) where
+            other : writer ≡ own → ⊥
+            other = search (rules, e)
+
+            sides : (n : ℕ) → n + 0 ≡ n
+            sides n = omega arith
+
+            apart : (own < writer) ⊎ (writer ≤ own) → (writer ≡ own → ⊥)
+                → nat_lt own writer ≡ nat_lt own (suc writer)
+            apart (inl below) other =
+                lt_true own writer below ∙ sym (lt_true own (suc writer) (omega (arith, below)))
+            apart (inr past) other =
+                lt_false own writer past
+                ∙ sym (lt_false own (suc writer) (omega (arith, past, other)))
+
+-- SO MANY ROUNDS
+
+pub rounds_more : (load : Load) (rounds : ℕ)
+    → played_rounds load (suc rounds) ≡ played_rounds load rounds ++ round_of load rounds
+rounds_more load rounds =
+    ap (λ ts. scheduled load ++ ts)
+    (flat_map-append (round_of load) (count_up rounds) (rounds ∷ [])
+    ∙ ap (λ ts. flat_map (round_of load) (count_up rounds) ++ ts)
+    (append-nil (round_of load rounds)))
+    ∙ sym
+    (append_assoc (scheduled load) (flat_map (round_of load) (count_up rounds))
+    (round_of load rounds))
+
+-- each writer has taken a step in each, or its whole script
+pub count_rounds : (load : Load) (writer rounds : ℕ) → writer < length load.scripts
+    → count_by (is_step_of writer) (played_rounds load rounds)
+    ≡ min (length (script_of load writer)) (scheduled_of load writer + rounds)
+count_rounds load writer zero below =
+    ap (count_by (is_step_of writer)) (append-nil (scheduled load))
+    ∙ omega (arith, scheduled-within load writer)
+count_rounds load writer (suc rounds) below =
+    ap (count_by (is_step_of writer)) (rounds_more load rounds)
+    ∙ (count-append (is_step_of writer) (played_rounds load rounds) (round_of load rounds)
+    ∙ (ap (λ n. n + count_by (is_step_of writer) (round_of load rounds))
+    (count_rounds load writer rounds below)
+    ∙ (ap (λ n. min (length (script_of load writer)) (scheduled_of load writer + rounds) + n)
+    (ap (count_by (is_step_of writer)) (sym (part_all load rounds))
+    ∙ (count_part load rounds writer (length load.scripts) (omega arith)
+    ∙ ap
+    (λ b. cond b (cond (nat_lt (scheduled_of load writer + rounds)
+    (length (script_of load writer))) 1 0) 0)
+    (lt_true writer (length load.scripts) below)))
+    ∙ sums (scheduled_of load writer) rounds (length (script_of load writer))))) where
+      sums : (a b c : ℕ) → min c (a + b) + cond (nat_lt (a + b) c) 1 0 ≡ min c (a + suc b)
+      sums a b c = at (cases_lt (a + b) c) where
+        at : ((a + b) < c) ⊎ (c ≤ (a + b))
+            → min c (a + b) + cond (nat_lt (a + b) c) 1 0 ≡ min c (a + suc b)
+        at (inl below) =
+            ap (λ d. min c (a + b) + cond d 1 0) (lt_true (a + b) c below)
+            ∙ omega (arith, below)
+        at (inr past) =
+            ap (λ d. min c (a + b) + cond d 1 0) (lt_false (a + b) c past)
+            ∙ omega (arith, past)
+
+-- after so many rounds and a part of one, a writer that is still to come
+count_between : (load : Load) (rounds writer : ℕ) → writer < length load.scripts
+    → count_by (is_step_of writer)
+    (reverse (played_rounds load rounds ++ round_part load rounds writer))
+    ≡ min (length (script_of load writer)) (scheduled_of load writer + rounds)
+count_between load rounds writer below =
+    count-reverse (is_step_of writer) (played_rounds load rounds ++ round_part load rounds writer)
+    ∙ (count-append (is_step_of writer) (played_rounds load rounds)
+    (round_part load rounds writer)
+    ∙ (ap (λ n. count_by (is_step_of writer) (played_rounds load rounds) + n)
+    (count_part load rounds writer writer (omega (arith, below))
+    ∙ ap
+    (λ b. cond b (cond (nat_lt (scheduled_of load writer + rounds)
+    (length (script_of load writer))) 1 0) 0) (lt_false writer writer (omega arith)))
+    ∙ omega (arith, count_rounds load writer rounds below)))
+
+-- takes a step exactly where the round has one
+possible_between : (load : Load) (rounds writer : ℕ) → writer < length load.scripts
+    → is_possible load (reverse (played_rounds load rounds ++ round_part load rounds writer))
+    (Takes_step writer)
+    ≡ nat_lt (scheduled_of load writer + rounds) (length (script_of load writer))
+possible_between load rounds writer below =
+    ap (λ n. nat_lt n (length (script_of load writer))) (count_between load rounds writer below)
+    ∙ smaller (length (script_of load writer)) (scheduled_of load writer + rounds) where
+      swapped : (a b : ℕ) → min a b ≡ min b a
+      swapped a b = omega arith
+
+      smaller : (b a : ℕ) → nat_lt (min b a) b ≡ nat_lt a b
+      smaller b a = ap (λ n. nat_lt n b) (swapped b a) ∙ within a b
+
+-- a writer more, that takes a step
+pub part_step : (load : Load) (rounds writer : ℕ) → writer < length load.scripts
+    → is_possible load (reverse (played_rounds load rounds ++ round_part load rounds writer))
+    (Takes_step writer) ≡ true
+    → with_step load (played_rounds load rounds ++ round_part load rounds writer) writer
+    ++ Reads_all ∷ []
+    ≡ played_rounds load rounds ++ round_part load rounds (suc writer)
+part_step load rounds writer below steps =
+    ap
+    (λ b. ((played_rounds load rounds ++ round_part load rounds writer)
+    ++ cond b (Takes_step writer ∷ []) []) ++ Reads_all ∷ []) steps
+    ∙ (append_assoc (played_rounds load rounds ++ round_part load rounds writer)
+    (Takes_step writer ∷ []) (Reads_all ∷ [])
+    ∙ (append_assoc (played_rounds load rounds) (round_part load rounds writer)
+    (Takes_step writer ∷ Reads_all ∷ [])
+    ∙ ap (λ ts. played_rounds load rounds ++ ts)
+    (ap
+    (λ b. round_part load rounds writer ++ cond b (Takes_step writer ∷ Reads_all ∷ []) [])
+    (sym (sym (possible_between load rounds writer below) ∙ steps))
+    ∙ sym (part_more load rounds writer below))))
+
+-- or is through
+pub part_idle : (load : Load) (rounds writer : ℕ) → writer < length load.scripts
+    → is_possible load (reverse (played_rounds load rounds ++ round_part load rounds writer))
+    (Takes_step writer) ≡ false
+    → with_step load (played_rounds load rounds ++ round_part load rounds writer) writer
+    ≡ played_rounds load rounds ++ round_part load rounds (suc writer)
+part_idle load rounds writer below idle =
+    ap
+    (λ b. (played_rounds load rounds ++ round_part load rounds writer)
+    ++ cond b (Takes_step writer ∷ []) []) idle
+    ∙ (append_assoc (played_rounds load rounds) (round_part load rounds writer) []
+    ∙ ap (λ ts. played_rounds load rounds ++ ts)
+    (ap
+    (λ b. round_part load rounds writer ++ cond b (Takes_step writer ∷ Reads_all ∷ []) [])
+    (sym (sym (possible_between load rounds writer below) ∙ idle))
+    ∙ sym (part_more load rounds writer below)))
+
+-- THE WHOLE ORDER
+
+-- as many rounds as the writer has steps that has most of them
+pub record AreEnough (load : Load) (rounds : ℕ) : Type 0 where
+  pub enough : (writer : ℕ) → writer < length load.scripts
+      → length (script_of load writer) ≤ scheduled_of load writer + rounds
+  pub most : rounds ≤ steps_in load
+
+-- no round comes after them
+round_none : (load : Load) (rounds round : ℕ) → AreEnough load rounds → rounds ≤ round
+    → round_of load round ≡ []
+round_none load rounds round are past =
+    sym (part_all load round) ∙ none (length load.scripts) (omega arith) where
+      none : (writers : ℕ) → writers ≤ length load.scripts → round_part load round writers ≡ []
+      none zero h = refl
+      none (suc writer) h =
+          part_more load round writer (omega (arith, h))
+          ∙ (ap (λ ts. ts ++ turns_in load round (writer, script_of load writer))
+          (none writer (omega (arith, h)))
+          ∙ ap (λ b. cond b (Takes_step writer ∷ Reads_all ∷ []) [])
+          (lt_false (scheduled_of load writer + round) (length (script_of load writer))
+          (omega (arith, are.enough writer (omega (arith, h)), past))))
+
+rounds_end : (load : Load) (rounds more : ℕ) → AreEnough load rounds
+    → flat_map (round_of load) (count_up (more + rounds))
+    ≡ flat_map (round_of load) (count_up rounds)
+rounds_end load rounds zero are = ap (λ n. flat_map (round_of load) (count_up n)) (none rounds)
+  where
+    none : (n : ℕ) → 0 + n ≡ n
+    none n = omega arith
+rounds_end load rounds (suc more) are =
+    ap (λ n. flat_map (round_of load) (count_up n)) (further more rounds)
+    ∙ (flat_map-append (round_of load) (count_up (more + rounds)) ((more + rounds) ∷ [])
+    ∙ (ap (λ ts. flat_map (round_of load) (count_up (more + rounds)) ++ (ts ++ []))
+    (round_none load rounds (more + rounds) are (omega arith))
+    ∙ (append-nil (flat_map (round_of load) (count_up (more + rounds)))
+    ∙ rounds_end load rounds more are))) where
+      further : (a b : ℕ) → suc a + b ≡ suc (a + b)
+      further a b = omega arith
+
+-- the schedule, these rounds, and a last read are the order of the workload
+pub order_played : (load : Load) (rounds : ℕ) → load.commands ≡ [] → AreEnough load rounds
+    → order_of load ≡ played_rounds load rounds ++ Reads_all ∷ []
+order_played load rounds unasked are =
+    let split : steps_in load ≡ (steps_in load - rounds) + rounds = omega (arith, are.most) in
+    let all : rounds_of load ≡ flat_map (round_of load) (count_up rounds) =
+    ap (λ n. flat_map (round_of load) (count_up n)) split
+    ∙ rounds_end load rounds (steps_in load - rounds) are in
+    let none : sends_left load ≡ [] =
+    ap (λ n. replicate n Sends) (nothing (count_by is_send (scheduled load)) (ap length unasked)) in
+    ap (λ ts. scheduled load ++ (ts ++ (rounds_of load ++ Reads_all ∷ []))) none
+    ∙ (ap (λ ts. scheduled load ++ (ts ++ Reads_all ∷ [])) all
+    ∙ sym
+    (append_assoc (scheduled load) (flat_map (round_of load) (count_up rounds))
+    (Reads_all ∷ []))) where
+      nothing : {a : ℕ} (b : ℕ) → a ≡ 0 → a - b ≡ 0
+      nothing b e = omega arith
+
+-- in which each writer takes its whole script
+pub count_whole : (load : Load) (rounds writer : ℕ) → AreEnough load rounds
+    → writer < length load.scripts
+    → count_by (is_step_of writer) (played_rounds load rounds ++ Reads_all ∷ [])
+    ≡ length (script_of load writer)
+count_whole load rounds writer are below =
+    count-append (is_step_of writer) (played_rounds load rounds) (Reads_all ∷ [])
+    ∙ omega (
+      arith,
+      count_one (is_step_of writer) Reads_all,
+      count_rounds load writer rounds below,
+      are.enough writer below,
+    )
+
+-- so many ones
+sum_ones : {X : Type 0} (xs : List X) → sum_by (λ x. 1) xs ≡ length xs
+sum_ones [] = refl
+sum_ones (x ∷ xs) = sum_by-cons (λ y. 1) x xs ∙ (ap (λ n. 1 + n) (sum_ones xs) ∙ omega arith)
+
+-- no script has more steps than all of them
+pub script_within : (load : Load) (writer : ℕ) → writer < length load.scripts
+    → length (script_of load writer) ≤ steps_in load
+script_within load writer below =
+    subst (λ n. n ≤ steps_in load) (sum_ones (script_of load writer))
+    (get_or-le-sum_by (λ (s : List Step). sum_by (λ (t : Step). 1) s) load.scripts writer [] below)

@@ -1,0 +1,440 @@
+-- A turn more of a journal in order: a section, or a read of the host.
+use Rattle.std.proofs.Common.{◌≡◌, ℕ, ◌+◌, ◌-◌, ◌<◌, ◌≤◌, true, false, cond, List, [], ◌∷◌}
+use Rattle.std.proofs.Common.{◌++◌, length, reverse, filter, take, All, refl, sym, ap, ◌∙◌, subst, arith}
+use Rattle.std.proofs.Common.{append_assoc, append-nil, length-append}
+use Rattle.std.specs.Prelude.{count_by, nat_lt, ◌==◌}
+use Rattle.std.proofs.lemmas.List.{reverse-append, nil_from_length}
+use Rattle.std.proofs.lemmas.List.Elements.{All-nil, All-cons, All-head, All-tail}
+use Rattle.std.proofs.lemmas.Bool.{or_parts, true≢false}
+use Rattle.sv_workload.specs.Load.{Load}
+use Rattle.sv_journal.specs.declared.journal.Origin.{Origin}
+use Rattle.sv_journal.specs.declared.journal.Origin.TheVariants.{Call, Sync, Reply, Overflow}
+use Rattle.sv_journal.specs.declared.journal.Origin.TheVariants.{Command}
+use Rattle.sv_journal.specs.declared.journal.Item.{Item}
+use Rattle.sv_journal.specs.Items.{latest_first, is_call, is_call_of, is_command, is_overflow}
+use Rattle.sv_journal.specs.Items.{stored_before}
+use Rattle.sv_journal.specs.Legal.{IsLegal, EachItem, AreFirstCommands, is_head, origins_of}
+use Rattle.sv_journal.specs.Legal.{commands_in}
+use Rattle.sv_journal.proofs.Shared.{each-push, latest_first-push}
+use Rattle.sv_core.specs.Order.{Turn, Takes_step, Reads, Reads_all, Sends, is_step, is_step_of}
+use Rattle.sv_core.specs.Order.{is_send}
+use Rattle.sv_core.specs.Turns.{StepTurn, turn_at, step_turns}
+use Rattle.sv_core.specs.Simulated.{IsInOrder, IsTakenItem, IsTaken, before_number, before_section}
+use Rattle.sv_core.specs.Simulated.{before_step, stored_by, taken_in, ordered_turns, overflow_freed}
+use Rattle.sv_core.proofs.Counts.{lt_false, count-cons, count-not, before_number-all}
+use Rattle.sv_core.proofs.Counts.{before_number-more, before_number-le, calls_in, calls-cons}
+use Rattle.sv_core.proofs.JournalParts.{unmoved, after-push, origins_of-append, origins_of-cons}
+use Rattle.sv_core.proofs.JournalParts.{IsAnswer}
+use Rattle.sv_core.proofs.Sections.{before_number-append}
+use Rattle.sv_core.proofs.TurnsOfOrder.{ordered-length}
+use Rattle.sv_core.proofs.TurnCounts.{count-reverse, count-append, calls_turned}
+use Rattle.sv_core.proofs.OriginsOfTurns.{IsLastCall, last_call-tail, last_call-some, first_call}
+use Rattle.sv_core.proofs.OriginsOfTurns.{origins_by, origins_of-reverse, calls-origins}
+use Rattle.sv_core.proofs.OneJournal.{same_taken, taken_is}
+use Rattle.sv_core.proofs.RunSections.{commands_number}
+use Rattle.sv_core.proofs.SectionParts.{HasParts, parts_of, turn_of, calls_in-front, before_next}
+use Rattle.sv_core.proofs.SectionParts.{stored_by-same}
+
+-- COUNTS
+
+-- a turn for each call
+calls-turns : (items : List Item) → calls_in items ≡ length (step_turns items)
+calls-turns [] = refl
+calls-turns (i ∷ items) =
+    calls-cons i items
+    ∙ (ap (λ n. cond (is_call i.origin) 1 0 + n) (calls-turns items)
+    ∙ (at i.origin ∙ sym (length-append (turn_at i.origin items) (step_turns items)))) where
+      at : (o : Origin) → cond (is_call o) 1 0 + length (step_turns items)
+          ≡ length (turn_at o items) + length (step_turns items)
+      at (Call writer step) = refl
+      at Sync = refl
+      at (Reply kind index) = refl
+      at (Overflow count) = refl
+      at (Command byte param) = refl
+
+-- a call for each step
+pub calls-steps : (load : Load) (turns : List Turn) (items : List Item) → IsInOrder load turns items
+    → calls_in (latest_first items) ≡ count_by is_step (reverse turns)
+calls-steps load turns items order =
+    count-reverse (λ (i : Item). is_call i.origin) items
+    ∙ (calls-turns items
+    ∙ (ap length order.steps ∙ ordered-length load items (reverse turns)))
+
+-- a writer's turns are its steps
+writer-steps : (load : Load) (items : List Item) (writer : ℕ) (turns : List Turn)
+    → count_by (λ t. t.writer == writer) (ordered_turns load items turns)
+    ≡ count_by (is_step_of writer) turns
+writer-steps load items writer [] = refl
+writer-steps load items writer (Takes_step other ∷ earlier) =
+    let t : StepTurn = record {
+      writer = other;
+      command = nat_lt
+          (count_by (λ i. is_command i.origin)
+          (before_section items (count_by is_step earlier))) (count_by is_send earlier);
+    }
+    in
+    count-append (λ (u : StepTurn). u.writer == writer) (ordered_turns load items earlier) (t ∷ [])
+    ∙ (ap
+    (λ n. n + count_by (λ (u : StepTurn). u.writer == writer) (t ∷ []))
+    (writer-steps load items writer earlier)
+    ∙ turned (count_by (is_step_of writer) earlier) (cond (other == writer) 1 0)
+    (count-cons (λ (u : StepTurn). u.writer == writer) t [])
+    (count-cons (is_step_of writer) (Takes_step other) earlier)) where
+      turned : {b d : ℕ} (a c : ℕ) → b ≡ c + 0 → d ≡ c + a → a + b ≡ d
+      turned a c e f = omega arith
+writer-steps load items writer (Reads most ∷ earlier) =
+    writer-steps load items writer earlier
+    ∙ sym (count-not (is_step_of writer) (Reads most) earlier refl)
+writer-steps load items writer (Reads_all ∷ earlier) =
+    writer-steps load items writer earlier
+    ∙ sym (count-not (is_step_of writer) Reads_all earlier refl)
+writer-steps load items writer (Sends ∷ earlier) =
+    writer-steps load items writer earlier
+    ∙ sym (count-not (is_step_of writer) Sends earlier refl)
+
+-- and so are its calls
+pub own-steps : (load : Load) (turns : List Turn) (items : List Item) (writer : ℕ)
+    → IsInOrder load turns items
+    → count_by (λ i. is_call_of writer i.origin) items ≡ count_by (is_step_of writer) turns
+own-steps load turns items writer order =
+    calls_turned writer items
+    ∙ (ap (count_by (λ (t : StepTurn). t.writer == writer)) order.steps
+    ∙ (writer-steps load items writer (reverse turns)
+    ∙ count-reverse (is_step_of writer) turns))
+
+-- WITHOUT COMMANDS
+
+-- no command is there where the workload has none
+pub first_none : (load : Load) (items : List Item) → load.commands ≡ [] → IsLegal load items
+    → AreFirstCommands load items
+first_none load items unasked legal =
+    let few : count_by (λ (i : Item). is_command i.origin) items ≤ length load.commands =
+    legal.commands in
+    let none : commands_in items ≡ [] =
+    nil_from_length (commands_in items)
+    (omega (arith, few, commands_number items, ap length unasked)) in
+    none ∙ sym (ap (λ cs. take (length cs) load.commands) none)
+
+-- where nothing is sent, the turns' steps tell their turns
+unsent-turns : (load : Load) (a b : List Item) (turns : List Turn) → count_by is_send turns ≡ 0
+    → ordered_turns load a turns ≡ ordered_turns load b turns
+unsent-turns load a b [] none = refl
+unsent-turns load a b (Takes_step writer ∷ earlier) none =
+    let before : count_by is_send earlier ≡ 0 =
+    sym (count-not is_send (Takes_step writer) earlier refl) ∙ none in
+    ap
+    (λ ts. ts ++ record {
+      writer = writer;
+      command = nat_lt
+          (count_by (λ i. is_command i.origin)
+          (before_section a (count_by is_step earlier))) (count_by is_send earlier);
+    } ∷ []) (unsent-turns load a b earlier before)
+    ∙ ap (λ c. ordered_turns load b earlier ++ record { writer = writer; command = c } ∷ [])
+    (lt_false
+    (count_by (λ i. is_command i.origin) (before_section a (count_by is_step earlier)))
+    (count_by is_send earlier) (omega (arith, before))
+    ∙ sym
+    (lt_false
+    (count_by (λ i. is_command i.origin) (before_section b (count_by is_step earlier)))
+    (count_by is_send earlier) (omega (arith, before))))
+unsent-turns load a b (Reads most ∷ earlier) none =
+    unsent-turns load a b earlier (sym (count-not is_send (Reads most) earlier refl) ∙ none)
+unsent-turns load a b (Reads_all ∷ earlier) none =
+    unsent-turns load a b earlier (sym (count-not is_send Reads_all earlier refl) ∙ none)
+unsent-turns load a b (Sends ∷ earlier) none =
+    absurd (omega (arith, none, count-cons is_send Sends earlier))
+
+-- THE FIRST CALL
+
+last_call-back : (later : List Origin) (os : List Origin) → IsLastCall (later ++ os) → IsLastCall os
+last_call-back [] os h = h
+last_call-back (o ∷ later) os h = last_call-back later os (last_call-tail o (later ++ os) h)
+
+-- a call stands at or before each item that is no overflow
+called_at : (load : Load) (items later earlier : List Item) (i : Item) → IsLegal load items
+    → AreFirstCommands load items → latest_first items ≡ later ++ (i ∷ earlier)
+    → is_overflow i.origin ≡ false → 0 < calls_in (i ∷ earlier)
+called_at load items later earlier i legal commands e other =
+    let all : IsLastCall (origins_of (latest_first items)) =
+    subst IsLastCall
+    (sym
+    (origins_of-reverse items
+    ∙ ap reverse (origins_by load items legal.each commands legal.groups)))
+    (first_call load (step_turns items) load.commands) in
+    let here : IsLastCall (origins_of later ++ (i.origin ∷ origins_of earlier)) =
+    subst IsLastCall
+    (ap origins_of e
+    ∙ (origins_of-append later (i ∷ earlier)
+    ∙ ap (λ os. origins_of later ++ os) (origins_of-cons i earlier other))) all in
+    subst (λ n. 0 < n)
+    (sym
+    (calls-origins (i ∷ earlier) ∙ ap (count_by is_call) (origins_of-cons i earlier other)))
+    (last_call-some i.origin (origins_of earlier)
+    (last_call-back (origins_of later) (i.origin ∷ origins_of earlier) here))
+
+-- WHAT THE HOST TOOK
+
+-- by the freed of an item that is no overflow
+taken_by : (load : Load) (turns : List Turn) (items earlier : List Item) (item : Item) (o : Origin)
+    → (is_overflow o ≡ false
+    → item.freed ≡ taken_in load items (before_step turns (calls_in (item ∷ earlier) - 1)))
+    → IsTaken load turns items earlier item o
+taken_by load turns items earlier item (Call writer step) h = h refl
+taken_by load turns items earlier item Sync h = h refl
+taken_by load turns items earlier item (Reply kind index) h = h refl
+taken_by load turns items earlier item (Overflow count) h = tt
+taken_by load turns items earlier item (Command byte param) h = h refl
+
+-- a turn more, the latest first
+pub turn_more : (turns : List Turn) (t : Turn) → reverse (turns ++ t ∷ []) ≡ t ∷ reverse turns
+turn_more turns t = reverse-append turns (t ∷ [])
+
+-- the turns before a step that was taken
+before_taken : (turns : List Turn) (t : Turn) (number : ℕ) → number < count_by is_step (reverse turns)
+    → before_step (turns ++ t ∷ []) number ≡ before_step turns number
+before_taken turns t number below =
+    ap (before_number is_step number) (turn_more turns t)
+    ∙ before_number-append is_step number (t ∷ []) (reverse turns) below
+
+-- the turns before a step that is taken now
+before_now : (turns : List Turn) (writer : ℕ)
+    → before_step (turns ++ Takes_step writer ∷ []) (count_by is_step (reverse turns))
+    ≡ reverse turns
+before_now turns writer =
+    let n : ℕ = count_by is_step (reverse turns) in
+    let below : n < count_by is_step (Takes_step writer ∷ reverse turns) =
+    omega (arith, count-cons is_step (Takes_step writer) (reverse turns)) in
+    ap (before_number is_step n) (turn_more turns (Takes_step writer))
+    ∙ (before_number-more is_step n (Takes_step writer) (reverse turns) below
+    ∙ before_number-all is_step n (reverse turns) (omega arith))
+
+-- the items of one journal are those of a longer one, where the host took the same before each step
+each_same : (load : Load) (turns more_turns : List Turn) (items after later xs : List Item)
+    → IsLegal load items → AreFirstCommands load items
+    → ((number : ℕ) → number < calls_in (latest_first items)
+    → taken_in load after (before_step more_turns number)
+    ≡ taken_in load items (before_step turns number))
+    → latest_first items ≡ later ++ xs → EachItem (IsTakenItem load turns items) xs
+    → EachItem (IsTakenItem load more_turns after) xs
+each_same load turns more_turns items after later [] legal commands same e each = tt
+each_same load turns more_turns items after later (i ∷ earlier) legal commands same e each = (
+  each_same load turns more_turns items after (later ++ i ∷ []) earlier legal commands same
+      (e ∙ sym (append_assoc later (i ∷ []) earlier)) each.0,
+  record {
+    taken = taken_by load more_turns after earlier i i.origin here;
+    overflow_freed = each.1.overflow_freed;
+  },
+)
+  where
+    here : is_overflow i.origin ≡ false
+        → i.freed ≡ taken_in load after (before_step more_turns (calls_in (i ∷ earlier) - 1))
+    here other =
+        let some : 0 < calls_in (i ∷ earlier) =
+        called_at load items later earlier i legal commands e other in
+        let all : calls_in (latest_first items) ≡ calls_in later + calls_in (i ∷ earlier) =
+        ap calls_in e ∙ count-append (λ (j : Item). is_call j.origin) later (i ∷ earlier) in
+        taken_is load turns items earlier i i.origin other each.1.taken
+        ∙ sym (same (calls_in (i ∷ earlier) - 1) (omega (arith, some, all)))
+
+-- A READ MORE
+
+-- a turn that is no step keeps the order
+pub idle_more : (load : Load) (turns : List Turn) (items : List Item) (t : Turn)
+    → load.commands ≡ [] → IsLegal load items → is_step t ≡ false
+    → ordered_turns load items (t ∷ reverse turns) ≡ ordered_turns load items (reverse turns)
+    → IsInOrder load turns items → IsInOrder load (turns ++ t ∷ []) items
+idle_more load turns items t unasked legal idle same order = record {
+  steps = order.steps ∙ (sym same ∙ sym (ap (ordered_turns load items) (turn_more turns t)));
+  freed =
+      each_same load turns (turns ++ t ∷ []) items items [] (latest_first items) legal
+      (first_none load items unasked legal)
+      (λ number below.
+      ap (taken_in load items)
+      (before_taken turns t number
+      (subst (λ n. number < n) (calls-steps load turns items order) below))) refl order.freed;
+}
+
+-- all that is stored is what the sections so far stored
+pub stored_now : (load : Load) (turns : List Turn) (items : List Item) → IsLegal load items
+    → IsInOrder load turns items
+    → stored_by load items (count_by is_step (reverse turns)) ≡ stored_before load
+    (latest_first items)
+stored_now load turns items legal order =
+    ap (stored_by load items) (sym (calls-steps load turns items order))
+    ∙ ap (stored_before load) (before_next load items legal)
+
+-- A SECTION MORE
+
+-- what holds of two lists holds of each
+all_parts : {X : Type 0} (P : X → Type 0) (xs ys : List X) → All P (xs ++ ys)
+    → All P xs × All P ys
+all_parts P [] ys all = (All-nil P, all)
+all_parts P (x ∷ xs) ys all =
+    let rest = all_parts P xs ys (All-tail P x (xs ++ ys) all) in
+    (All-cons P x xs (All-head P x (xs ++ ys) all) rest.0, rest.1)
+
+-- answers and overflows after items that end in a section's call
+module _ (P : List Item → Item → Type 0) (freed number : ℕ)
+    (new : (earlier : List Item) (i : Item) → i.freed ≡ freed
+    → (is_overflow i.origin ≡ false → calls_in (i ∷ earlier) ≡ number)
+    → overflow_freed earlier freed ≡ freed → P earlier i) where
+  -- the answers of a section, one after another
+  answers_more : (items rest : List Item) → EachItem P (latest_first items)
+      → calls_in (latest_first items) ≡ number → overflow_freed (latest_first items) freed ≡ freed
+      → All (λ i. i.freed ≡ freed) rest → All IsAnswer rest
+      → EachItem P (latest_first (items ++ rest))
+  answers_more items [] each calls behind all answers =
+      subst (λ is. EachItem P (latest_first is)) (sym (append-nil items)) each
+  answers_more items (i ∷ rest) each calls behind all answers =
+      let here : i.freed ≡ freed = All-head (λ (j : Item). j.freed ≡ freed) i rest all in
+      let other = or_parts (is_call i.origin) (is_command i.origin)
+      (All-head IsAnswer i rest answers) in
+      let same : calls_in (i ∷ latest_first items) ≡ number =
+      count-not (λ (j : Item). is_call j.origin) i (latest_first items) other.0 ∙ calls in
+      subst (λ is. EachItem P (latest_first is)) (append_assoc items (i ∷ []) rest)
+      (answers_more (items ++ i ∷ []) rest
+      (each-push P items i each (new (latest_first items) i here (λ e. same) behind))
+      (ap calls_in (latest_first-push items i) ∙ same) (after-push items i freed here)
+      (All-tail (λ (j : Item). j.freed ≡ freed) i rest all) (All-tail IsAnswer i rest answers))
+
+  -- the overflow that may stand before its call
+  front_more : (items front : List Item) → EachItem P (latest_first items)
+      → overflow_freed (latest_first items) freed ≡ freed → All (λ i. i.freed ≡ freed) front
+      → All (λ i. is_overflow i.origin ≡ true) front
+      → EachItem P (latest_first (items ++ front))
+      × (overflow_freed (latest_first (items ++ front)) freed ≡ freed)
+  front_more items [] each behind all over = (
+    subst (λ is. EachItem P (latest_first is)) (sym (append-nil items)) each,
+    ap (λ is. overflow_freed (latest_first is) freed) (append-nil items) ∙ behind,
+  )
+  front_more items (i ∷ front) each behind all over =
+      let here : i.freed ≡ freed = All-head (λ (j : Item). j.freed ≡ freed) i front all in
+      let is : is_overflow i.origin ≡ true =
+      All-head (λ (j : Item). is_overflow j.origin ≡ true) i front over in
+      let pushed : EachItem P (latest_first (items ++ i ∷ [])) =
+      each-push P items i each
+      (new (latest_first items) i here (λ e. absurd (true≢false (sym is ∙ e))) behind) in
+      subst
+      (λ is. EachItem P (latest_first is)
+      × (overflow_freed (latest_first is) freed ≡ freed)) (append_assoc items (i ∷ []) front)
+      (front_more (items ++ i ∷ []) front pushed (after-push items i freed here)
+      (All-tail (λ (j : Item). j.freed ≡ freed) i front all)
+      (All-tail (λ (j : Item). is_overflow j.origin ≡ true) i front over))
+
+  -- all of it
+  section_more : (items more : List Item) (p : HasParts items more)
+      → EachItem P (latest_first items) → overflow_freed (latest_first items) freed ≡ freed
+      → 1 + calls_in (latest_first items) ≡ number → All (λ i. i.freed ≡ freed) more
+      → EachItem P (latest_first (items ++ more))
+  section_more items more p each behind calls all =
+      let parts : All (λ (i : Item). i.freed ≡ freed) (p.front ++ (p.call ∷ p.rest)) =
+      subst (All (λ (i : Item). i.freed ≡ freed)) p.parts all in
+      let both = all_parts (λ (i : Item). i.freed ≡ freed) p.front (p.call ∷ p.rest) parts in
+      let first = both.0 in
+      let second = both.1 in
+      let front : List Item = items ++ p.front in
+      let done = front_more items p.front each behind first p.overflows in
+      let here : p.call.freed ≡ freed =
+      All-head (λ (j : Item). j.freed ≡ freed) p.call p.rest second in
+      let count : calls_in (p.call ∷ latest_first front) ≡ number =
+      calls-cons p.call (latest_first front)
+      ∙ (ap (λ b. cond b 1 0 + calls_in (latest_first front)) p.called
+      ∙ (ap (λ n. 1 + n) (calls_in-front items more p) ∙ calls)) in
+      subst (λ is. EachItem P (latest_first (items ++ is))) (sym p.parts)
+      (subst (λ is. EachItem P (latest_first is))
+      (append_assoc front (p.call ∷ []) p.rest ∙ append_assoc items p.front (p.call ∷ p.rest))
+      (answers_more (front ++ p.call ∷ []) p.rest
+      (each-push P front p.call done.0
+      (new (latest_first front) p.call here (λ e. count) done.1))
+      (ap calls_in (latest_first-push front p.call) ∙ count) (after-push front p.call freed here)
+      (All-tail (λ (j : Item). j.freed ≡ freed) p.call p.rest second) p.answers))
+
+-- the host took the same before a step that was taken
+pub taken-same : (load : Load) (turns : List Turn) (items more : List Item) (p : HasParts items more)
+    → IsLegal load items → (before : List Turn)
+    → count_by is_step before ≤ calls_in (latest_first items)
+    → taken_in load (items ++ more) before ≡ taken_in load items before
+taken-same load turns items more p old before few =
+    same_taken load (items ++ more) items before
+    (λ number h. stored_by-same load items more number old p (omega (arith, h, few)))
+
+-- a section of a writer, whose items have the freed that the host took before
+pub order_more : (load : Load) (turns : List Turn) (items more : List Item) (writer step : ℕ)
+    → load.commands ≡ [] → count_by is_send turns ≡ 0 → IsLegal load items
+    → IsLegal load (items ++ more) → IsInOrder load turns items
+    → filter is_head (origins_of more) ≡ Call writer step ∷ []
+    → All (λ i. i.freed ≡ taken_in load items (reverse turns)) more
+    → IsInOrder load (turns ++ Takes_step writer ∷ []) (items ++ more)
+    × (taken_in load (items ++ more) (reverse (turns ++ Takes_step writer ∷ []))
+    ≡ taken_in load items (reverse turns))
+order_more load turns items more writer step unasked unsent old new order heads all = (
+  record { steps = steps; freed = freed },
+  ap (taken_in load (items ++ more)) (turn_more turns (Takes_step writer)) ∙ same,
+) where
+  next : List Turn
+  next = turns ++ Takes_step writer ∷ []
+
+  p : HasParts items more
+  p = parts_of load items writer step old more new heads
+
+  calls : calls_in (latest_first items) ≡ count_by is_step (reverse turns)
+  calls = calls-steps load turns items order
+
+  same : taken_in load (items ++ more) (reverse turns) ≡ taken_in load items (reverse turns)
+  same = taken-same load turns items more p old (reverse turns) (omega (arith, calls))
+
+  none : count_by is_send (reverse turns) ≡ 0
+  none = count-reverse is_send turns ∙ unsent
+
+  steps : step_turns (items ++ more) ≡ ordered_turns load (items ++ more) (reverse next)
+  steps =
+      turn_of load items writer step old more new heads
+      ∙ (ap (λ ts. ts ++ record { writer = writer; command = false } ∷ [])
+      (order.steps ∙ unsent-turns load items (items ++ more) (reverse turns) none)
+      ∙ (ap
+      (λ c. ordered_turns load (items ++ more) (reverse turns)
+      ++ record { writer = writer; command = c } ∷ [])
+      (sym
+      (lt_false
+      (count_by (λ i. is_command i.origin)
+      (before_section (items ++ more) (count_by is_step (reverse turns))))
+      (count_by is_send (reverse turns)) (omega (arith, none))))
+      ∙ ap (ordered_turns load (items ++ more)) (sym (turn_more turns (Takes_step writer)))))
+
+  P : List Item → Item → Type 0
+  P = IsTakenItem load next (items ++ more)
+
+  before : EachItem P (latest_first items)
+  before =
+      each_same load turns next items (items ++ more) [] (latest_first items) old
+      (first_none load items unasked old)
+      (λ number below.
+      let below_steps : number < count_by is_step (reverse turns) =
+      subst (λ n. number < n) calls below in
+      ap (taken_in load (items ++ more)) (before_taken turns (Takes_step writer) number below_steps)
+      ∙ taken-same load turns items more p old (before_step turns number)
+      (omega (arith, below, before_number-le is_step number (reverse turns)))) refl order.freed
+
+  now : (earlier : List Item) (i : Item) → i.freed ≡ taken_in load items (reverse turns)
+      → (is_overflow i.origin ≡ false
+      → calls_in (i ∷ earlier) ≡ 1 + calls_in (latest_first items))
+      → overflow_freed earlier (taken_in load items (reverse turns))
+      ≡ taken_in load items (reverse turns) → P earlier i
+  now earlier i here count behind = record {
+    taken =
+        taken_by load next (items ++ more) earlier i i.origin
+        (λ other.
+        let number : calls_in (i ∷ earlier) - 1 ≡ count_by is_step (reverse turns) =
+        omega (arith, count other, calls) in
+        here
+        ∙ (sym same
+        ∙ ap (taken_in load (items ++ more))
+        (sym (ap (before_step next) number ∙ before_now turns writer))));
+    overflow_freed = subst (λ n. overflow_freed earlier n ≡ n) (sym here) behind;
+  }
+
+  freed : EachItem P (latest_first (items ++ more))
+  freed =
+      section_more P (taken_in load items (reverse turns)) (1 + calls_in (latest_first items)) now
+      items more p before (unmoved (latest_first items) (taken_in load items (reverse turns)) old.ends)
+      refl all

@@ -1,0 +1,5 @@
+pub mod Shared
+pub mod examples
+pub mod Steps
+pub mod Next
+pub mod Scripts

@@ -1,0 +1,7 @@
+pub mod Items
+pub mod Legal
+pub mod Stream
+pub mod Open
+pub mod Clock
+pub mod Packets
+pub mod Section

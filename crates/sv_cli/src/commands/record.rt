@@ -10,7 +10,7 @@ use crate::simulated::MOST_BYTES;
 use crate::status::Status;
 use std::alloc::Global;
 use sv_base::{ReadAll, Sink, Source};
-use sv_recorder::Journal;
+use sv_journal::Journal;
 
 /// Records the workload of the name: writes a line, and the bytes that its simulation sends.
 pub fn record<S: Source, K: Sink>(

@@ -47,7 +47,7 @@ pub fn record_text<K: Sink>(
         Err(Unsimulated::NoMemory) => return Status::NoMemory,
     };
     *journal = run.journal;
-    let Ok(()) = put_recording(out, &run.bytes) else {
+    let Ok(()) = put_recording(out, run.bytes.as_slice()) else {
         return Status::WriteFault;
     };
     if !has_start(&load, journal.items()) {

@@ -22,7 +22,10 @@ pub mod Gathered
 pub mod FreesCounted
 pub mod TurnsTaken
 pub mod SectionParts
+pub mod StepCounts
 pub mod SectionMore
 pub mod OrderParts
+pub mod RoundParts
 pub mod Rounds
 pub mod Playing
+pub mod PlayingLines

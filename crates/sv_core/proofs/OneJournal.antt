@@ -29,7 +29,8 @@ use Rattle.sv_core.proofs.TurnsOfOrder.{same_turns}
 use Rattle.sv_core.proofs.OriginsOfTurns.{IsLastCall, last_call-tail, last_call-some, first_call}
 use Rattle.sv_core.proofs.OriginsOfTurns.{origins_by, origins_of-reverse, not_call, calls-origins}
 use Rattle.sv_core.proofs.OriginsOfTurns.{origins-before_overflow}
-use Rattle.sv_core.proofs.Counts.{count-cons, count-not, before_number-all, before_number-more, before_number-le, calls_in, calls-cons}
+use Rattle.sv_core.proofs.Counts.{count-cons, count-not, before_number-all, before_number-more}
+use Rattle.sv_core.proofs.Counts.{before_number-le, calls_in, calls-cons}
 use Rattle.sv_core.proofs.JournalParts.{no_packet, alone, origins_of-cons}
 
 -- THE FRONT OF A JOURNAL

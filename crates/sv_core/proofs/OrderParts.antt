@@ -146,7 +146,8 @@ steps_through load asked writer few (suc count) through h =
       at : (count < few) ⊎ (few ≤ count)
           → (few ≤ count
           → possible load (replicate count t ++ asked) ≡ possible load (replicate few t ++ asked))
-          → possible load (replicate (suc count) t ++ asked) ≡ possible load (replicate few t ++ asked)
+          → possible load (replicate (suc count) t ++ asked)
+          ≡ possible load (replicate few t ++ asked)
       at (inl below) rest =
           ap (λ n. possible load (replicate n t ++ asked)) (exact count few below h) where
             exact : (a b : ℕ) → a < b → b ≤ suc a → suc a ≡ b
@@ -172,26 +173,6 @@ send_none load earlier unasked =
     (least (ap length unasked)) where
       least : {a b : ℕ} → a ≡ 0 → a ≤ b
       least e = omega arith
-
--- nothing is sent where there are no commands
-pub unsent_possible : (load : Load) (asked : List Turn) → load.commands ≡ []
-    → count_by is_send (possible load asked) ≡ 0
-unsent_possible load [] unasked = refl
-unsent_possible load (t ∷ earlier) unasked =
-    count-append is_send (possible load earlier) (cond (is_possible load earlier t) (t ∷ []) [])
-    ∙ (ap (λ n. n + count_by is_send (cond (is_possible load earlier t) (t ∷ []) []))
-    (unsent_possible load earlier unasked) ∙ ap (λ n. 0 + n) (at t)) where
-      other : (t : Turn) (b : Bool) → is_send t ≡ false
-          → count_by is_send (cond b (t ∷ []) []) ≡ 0
-      other t true e = count_one is_send t ∙ ap (λ b. cond b 1 0) e
-      other t false e = refl
-
-      at : (t : Turn) → count_by is_send (cond (is_possible load earlier t) (t ∷ []) []) ≡ 0
-      at (Takes_step writer) =
-          other (Takes_step writer) (is_possible load earlier (Takes_step writer)) refl
-      at (Reads most) = other (Reads most) true refl
-      at Reads_all = other Reads_all true refl
-      at Sends = ap (λ b. count_by is_send (cond b (Sends ∷ []) [])) (send_none load earlier unasked)
 
 -- LINES
 

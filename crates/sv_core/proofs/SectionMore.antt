@@ -1,9 +1,9 @@
 -- A turn more of a journal in order: a section, or a read of the host.
 use Rattle.std.proofs.Common.{◌≡◌, ℕ, ◌+◌, ◌-◌, ◌<◌, ◌≤◌, true, false, cond, List, [], ◌∷◌}
-use Rattle.std.proofs.Common.{◌++◌, length, reverse, filter, take, All, refl, sym, ap, ◌∙◌, subst, arith}
-use Rattle.std.proofs.Common.{append_assoc, append-nil, length-append}
-use Rattle.std.specs.Prelude.{count_by, nat_lt, ◌==◌}
-use Rattle.std.proofs.lemmas.List.{reverse-append, nil_from_length}
+use Rattle.std.proofs.Common.{◌++◌, reverse, filter, All, refl, sym, ap, ◌∙◌, subst, arith}
+use Rattle.std.proofs.Common.{append_assoc, append-nil}
+use Rattle.std.specs.Prelude.{count_by}
+use Rattle.std.proofs.lemmas.List.{reverse-append}
 use Rattle.std.proofs.lemmas.List.Elements.{All-nil, All-cons, All-head, All-tail}
 use Rattle.std.proofs.lemmas.Bool.{or_parts, true≢false}
 use Rattle.sv_workload.specs.Load.{Load}
@@ -11,166 +11,23 @@ use Rattle.sv_journal.specs.declared.journal.Origin.{Origin}
 use Rattle.sv_journal.specs.declared.journal.Origin.TheVariants.{Call, Sync, Reply, Overflow}
 use Rattle.sv_journal.specs.declared.journal.Origin.TheVariants.{Command}
 use Rattle.sv_journal.specs.declared.journal.Item.{Item}
-use Rattle.sv_journal.specs.Items.{latest_first, is_call, is_call_of, is_command, is_overflow}
+use Rattle.sv_journal.specs.Items.{latest_first, is_call, is_command, is_overflow}
 use Rattle.sv_journal.specs.Items.{stored_before}
 use Rattle.sv_journal.specs.Legal.{IsLegal, EachItem, AreFirstCommands, is_head, origins_of}
-use Rattle.sv_journal.specs.Legal.{commands_in}
 use Rattle.sv_journal.proofs.Shared.{each-push, latest_first-push}
-use Rattle.sv_core.specs.Order.{Turn, Takes_step, Reads, Reads_all, Sends, is_step, is_step_of}
-use Rattle.sv_core.specs.Order.{is_send}
-use Rattle.sv_core.specs.Turns.{StepTurn, turn_at, step_turns}
+use Rattle.sv_core.specs.Order.{Turn, Takes_step, is_step, is_send}
+use Rattle.sv_core.specs.Turns.{step_turns}
 use Rattle.sv_core.specs.Simulated.{IsInOrder, IsTakenItem, IsTaken, before_number, before_section}
 use Rattle.sv_core.specs.Simulated.{before_step, stored_by, taken_in, ordered_turns, overflow_freed}
 use Rattle.sv_core.proofs.Counts.{lt_false, count-cons, count-not, before_number-all}
 use Rattle.sv_core.proofs.Counts.{before_number-more, before_number-le, calls_in, calls-cons}
-use Rattle.sv_core.proofs.JournalParts.{unmoved, after-push, origins_of-append, origins_of-cons}
-use Rattle.sv_core.proofs.JournalParts.{IsAnswer}
+use Rattle.sv_core.proofs.JournalParts.{unmoved, after-push, IsAnswer}
 use Rattle.sv_core.proofs.Sections.{before_number-append}
-use Rattle.sv_core.proofs.TurnsOfOrder.{ordered-length}
-use Rattle.sv_core.proofs.TurnCounts.{count-reverse, count-append, calls_turned}
-use Rattle.sv_core.proofs.OriginsOfTurns.{IsLastCall, last_call-tail, last_call-some, first_call}
-use Rattle.sv_core.proofs.OriginsOfTurns.{origins_by, origins_of-reverse, calls-origins}
+use Rattle.sv_core.proofs.TurnCounts.{count-reverse, count-append}
 use Rattle.sv_core.proofs.OneJournal.{same_taken, taken_is}
-use Rattle.sv_core.proofs.RunSections.{commands_number}
 use Rattle.sv_core.proofs.SectionParts.{HasParts, parts_of, turn_of, calls_in-front, before_next}
 use Rattle.sv_core.proofs.SectionParts.{stored_by-same}
-
--- COUNTS
-
--- a turn for each call
-calls-turns : (items : List Item) → calls_in items ≡ length (step_turns items)
-calls-turns [] = refl
-calls-turns (i ∷ items) =
-    calls-cons i items
-    ∙ (ap (λ n. cond (is_call i.origin) 1 0 + n) (calls-turns items)
-    ∙ (at i.origin ∙ sym (length-append (turn_at i.origin items) (step_turns items)))) where
-      at : (o : Origin) → cond (is_call o) 1 0 + length (step_turns items)
-          ≡ length (turn_at o items) + length (step_turns items)
-      at (Call writer step) = refl
-      at Sync = refl
-      at (Reply kind index) = refl
-      at (Overflow count) = refl
-      at (Command byte param) = refl
-
--- a call for each step
-pub calls-steps : (load : Load) (turns : List Turn) (items : List Item) → IsInOrder load turns items
-    → calls_in (latest_first items) ≡ count_by is_step (reverse turns)
-calls-steps load turns items order =
-    count-reverse (λ (i : Item). is_call i.origin) items
-    ∙ (calls-turns items
-    ∙ (ap length order.steps ∙ ordered-length load items (reverse turns)))
-
--- a writer's turns are its steps
-writer-steps : (load : Load) (items : List Item) (writer : ℕ) (turns : List Turn)
-    → count_by (λ t. t.writer == writer) (ordered_turns load items turns)
-    ≡ count_by (is_step_of writer) turns
-writer-steps load items writer [] = refl
-writer-steps load items writer (Takes_step other ∷ earlier) =
-    let t : StepTurn = record {
-      writer = other;
-      command = nat_lt
-          (count_by (λ i. is_command i.origin)
-          (before_section items (count_by is_step earlier))) (count_by is_send earlier);
-    }
-    in
-    count-append (λ (u : StepTurn). u.writer == writer) (ordered_turns load items earlier) (t ∷ [])
-    ∙ (ap
-    (λ n. n + count_by (λ (u : StepTurn). u.writer == writer) (t ∷ []))
-    (writer-steps load items writer earlier)
-    ∙ turned (count_by (is_step_of writer) earlier) (cond (other == writer) 1 0)
-    (count-cons (λ (u : StepTurn). u.writer == writer) t [])
-    (count-cons (is_step_of writer) (Takes_step other) earlier)) where
-      turned : {b d : ℕ} (a c : ℕ) → b ≡ c + 0 → d ≡ c + a → a + b ≡ d
-      turned a c e f = omega arith
-writer-steps load items writer (Reads most ∷ earlier) =
-    writer-steps load items writer earlier
-    ∙ sym (count-not (is_step_of writer) (Reads most) earlier refl)
-writer-steps load items writer (Reads_all ∷ earlier) =
-    writer-steps load items writer earlier
-    ∙ sym (count-not (is_step_of writer) Reads_all earlier refl)
-writer-steps load items writer (Sends ∷ earlier) =
-    writer-steps load items writer earlier
-    ∙ sym (count-not (is_step_of writer) Sends earlier refl)
-
--- and so are its calls
-pub own-steps : (load : Load) (turns : List Turn) (items : List Item) (writer : ℕ)
-    → IsInOrder load turns items
-    → count_by (λ i. is_call_of writer i.origin) items ≡ count_by (is_step_of writer) turns
-own-steps load turns items writer order =
-    calls_turned writer items
-    ∙ (ap (count_by (λ (t : StepTurn). t.writer == writer)) order.steps
-    ∙ (writer-steps load items writer (reverse turns)
-    ∙ count-reverse (is_step_of writer) turns))
-
--- WITHOUT COMMANDS
-
--- no command is there where the workload has none
-pub first_none : (load : Load) (items : List Item) → load.commands ≡ [] → IsLegal load items
-    → AreFirstCommands load items
-first_none load items unasked legal =
-    let few : count_by (λ (i : Item). is_command i.origin) items ≤ length load.commands =
-    legal.commands in
-    let none : commands_in items ≡ [] =
-    nil_from_length (commands_in items)
-    (omega (arith, few, commands_number items, ap length unasked)) in
-    none ∙ sym (ap (λ cs. take (length cs) load.commands) none)
-
--- where nothing is sent, the turns' steps tell their turns
-unsent-turns : (load : Load) (a b : List Item) (turns : List Turn) → count_by is_send turns ≡ 0
-    → ordered_turns load a turns ≡ ordered_turns load b turns
-unsent-turns load a b [] none = refl
-unsent-turns load a b (Takes_step writer ∷ earlier) none =
-    let before : count_by is_send earlier ≡ 0 =
-    sym (count-not is_send (Takes_step writer) earlier refl) ∙ none in
-    ap
-    (λ ts. ts ++ record {
-      writer = writer;
-      command = nat_lt
-          (count_by (λ i. is_command i.origin)
-          (before_section a (count_by is_step earlier))) (count_by is_send earlier);
-    } ∷ []) (unsent-turns load a b earlier before)
-    ∙ ap (λ c. ordered_turns load b earlier ++ record { writer = writer; command = c } ∷ [])
-    (lt_false
-    (count_by (λ i. is_command i.origin) (before_section a (count_by is_step earlier)))
-    (count_by is_send earlier) (omega (arith, before))
-    ∙ sym
-    (lt_false
-    (count_by (λ i. is_command i.origin) (before_section b (count_by is_step earlier)))
-    (count_by is_send earlier) (omega (arith, before))))
-unsent-turns load a b (Reads most ∷ earlier) none =
-    unsent-turns load a b earlier (sym (count-not is_send (Reads most) earlier refl) ∙ none)
-unsent-turns load a b (Reads_all ∷ earlier) none =
-    unsent-turns load a b earlier (sym (count-not is_send Reads_all earlier refl) ∙ none)
-unsent-turns load a b (Sends ∷ earlier) none =
-    absurd (omega (arith, none, count-cons is_send Sends earlier))
-
--- THE FIRST CALL
-
-last_call-back : (later : List Origin) (os : List Origin) → IsLastCall (later ++ os) → IsLastCall os
-last_call-back [] os h = h
-last_call-back (o ∷ later) os h = last_call-back later os (last_call-tail o (later ++ os) h)
-
--- a call stands at or before each item that is no overflow
-called_at : (load : Load) (items later earlier : List Item) (i : Item) → IsLegal load items
-    → AreFirstCommands load items → latest_first items ≡ later ++ (i ∷ earlier)
-    → is_overflow i.origin ≡ false → 0 < calls_in (i ∷ earlier)
-called_at load items later earlier i legal commands e other =
-    let all : IsLastCall (origins_of (latest_first items)) =
-    subst IsLastCall
-    (sym
-    (origins_of-reverse items
-    ∙ ap reverse (origins_by load items legal.each commands legal.groups)))
-    (first_call load (step_turns items) load.commands) in
-    let here : IsLastCall (origins_of later ++ (i.origin ∷ origins_of earlier)) =
-    subst IsLastCall
-    (ap origins_of e
-    ∙ (origins_of-append later (i ∷ earlier)
-    ∙ ap (λ os. origins_of later ++ os) (origins_of-cons i earlier other))) all in
-    subst (λ n. 0 < n)
-    (sym
-    (calls-origins (i ∷ earlier) ∙ ap (count_by is_call) (origins_of-cons i earlier other)))
-    (last_call-some i.origin (origins_of earlier)
-    (last_call-back (origins_of later) (i.origin ∷ origins_of earlier) here))
+use Rattle.sv_core.proofs.StepCounts.{calls-steps, first_none, unsent-turns, called_at}
 
 -- WHAT THE HOST TOOK
 
@@ -190,7 +47,8 @@ pub turn_more : (turns : List Turn) (t : Turn) → reverse (turns ++ t ∷ []) �
 turn_more turns t = reverse-append turns (t ∷ [])
 
 -- the turns before a step that was taken
-before_taken : (turns : List Turn) (t : Turn) (number : ℕ) → number < count_by is_step (reverse turns)
+before_taken : (turns : List Turn) (t : Turn) (number : ℕ)
+    → number < count_by is_step (reverse turns)
     → before_step (turns ++ t ∷ []) number ≡ before_step turns number
 before_taken turns t number below =
     ap (before_number is_step number) (turn_more turns t)
@@ -350,11 +208,11 @@ module _ (P : List Item → Item → Type 0) (freed number : ℕ)
       (All-tail (λ (j : Item). j.freed ≡ freed) p.call p.rest second) p.answers))
 
 -- the host took the same before a step that was taken
-pub taken-same : (load : Load) (turns : List Turn) (items more : List Item) (p : HasParts items more)
-    → IsLegal load items → (before : List Turn)
+pub taken-same : (load : Load) (items more : List Item) (before : List Turn)
+    → HasParts items more → IsLegal load items
     → count_by is_step before ≤ calls_in (latest_first items)
     → taken_in load (items ++ more) before ≡ taken_in load items before
-taken-same load turns items more p old before few =
+taken-same load items more before p old few =
     same_taken load (items ++ more) items before
     (λ number h. stored_by-same load items more number old p (omega (arith, h, few)))
 
@@ -381,7 +239,7 @@ order_more load turns items more writer step unasked unsent old new order heads 
   calls = calls-steps load turns items order
 
   same : taken_in load (items ++ more) (reverse turns) ≡ taken_in load items (reverse turns)
-  same = taken-same load turns items more p old (reverse turns) (omega (arith, calls))
+  same = taken-same load items more (reverse turns) p old (omega (arith, calls))
 
   none : count_by is_send (reverse turns) ≡ 0
   none = count-reverse is_send turns ∙ unsent
@@ -412,7 +270,7 @@ order_more load turns items more writer step unasked unsent old new order heads 
       let below_steps : number < count_by is_step (reverse turns) =
       subst (λ n. number < n) calls below in
       ap (taken_in load (items ++ more)) (before_taken turns (Takes_step writer) number below_steps)
-      ∙ taken-same load turns items more p old (before_step turns number)
+      ∙ taken-same load items more (before_step turns number) p old
       (omega (arith, below, before_number-le is_step number (reverse turns)))) refl order.freed
 
   now : (earlier : List Item) (i : Item) → i.freed ≡ taken_in load items (reverse turns)
@@ -436,5 +294,5 @@ order_more load turns items more writer step unasked unsent old new order heads 
   freed : EachItem P (latest_first (items ++ more))
   freed =
       section_more P (taken_in load items (reverse turns)) (1 + calls_in (latest_first items)) now
-      items more p before (unmoved (latest_first items) (taken_in load items (reverse turns)) old.ends)
-      refl all
+      items more p before
+      (unmoved (latest_first items) (taken_in load items (reverse turns)) old.ends) refl all

@@ -17,7 +17,8 @@ use Rattle.sv_core.specs.Simulated.{before_number, before_section, ordered_turns
 use Rattle.sv_core.proofs.Sections.{before_number-append}
 use Rattle.sv_core.proofs.Heads.{EachLater, reverse_moved, each_later, has_command-cons, not_again}
 use Rattle.sv_core.proofs.Heads.{not_twice}
-use Rattle.sv_core.proofs.Counts.{count-cons, count-not, before_number-all, before_number-more, calls_in, calls-cons}
+use Rattle.sv_core.proofs.Counts.{count-cons, count-not, before_number-all, before_number-more}
+use Rattle.sv_core.proofs.Counts.{calls_in, calls-cons}
 use Rattle.sv_core.proofs.JournalParts.{not_head}
 
 -- how many commands there are

@@ -5,3 +5,4 @@ pub mod Alone
 pub mod Stopped
 pub mod StoppedFreed
 pub mod Narrow
+pub mod Interleaved

@@ -12,8 +12,8 @@ ghost use Rattle.sv_core.specs.Played.{IsPlayed, with_step, played_rounds};
 ghost use Rattle.sv_core.specs.Simulated.{IsSimulated};
 
 use std::alloc::Global;
-use sv_journal::Journal;
 use sv_prim::NoMemory;
+use sv_journal::Journal;
 use sv_recorder::Recorder;
 use sv_ring::PlainRing;
 use sv_workload::{Action, Workload};
@@ -45,6 +45,7 @@ fn read(recorder: &mut Recorder<'_, PlainRing>, most: u32, buf: &mut [u8; 1024])
 }
 
 /// The host takes everything that is stored: a read that does not fill the buffer is the last one.
+#[inline]
 fn read_all(recorder: &mut Recorder<'_, PlainRing>, buf: &mut [u8; 1024])
     ensures { recorder.new ≡ record recorder.old { freed = length recorder.old.sent } }
 {
@@ -57,6 +58,7 @@ fn read_all(recorder: &mut Recorder<'_, PlainRing>, buf: &mut [u8; 1024])
 }
 
 /// The next step of a writer. False where its script is through.
+#[inline(always)]
 fn step(recorder: &mut Recorder<'_, PlainRing>, writer: u32) -> bool
     requires writer { writer < length recorder.old.load.scripts }
     ensures load { recorder.new.load ≡ recorder.old.load }

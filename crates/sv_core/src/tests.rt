@@ -3,6 +3,7 @@ ghost use Rattle.sv_recorder.specs.Plain.{IsPlain};
 
 use super::*;
 use std::alloc::Global;
+use std::process::Abort;
 use std::test::*;
 use sv_workload::{Workload, parse};
 
@@ -87,4 +88,68 @@ fn bad_turns_at_their_place(rt: HostRuntime) -> Result<(), Fail> {
         Err(fault) => assert_eq!(rt; fault, ReplayFault::BadTurns { at: 14 }),
     }
     Ok(())
+}
+
+/// Whether the simulation of the text, given in parts, has so many items and bytes, of which these
+/// are the last.
+fn simulates(
+    rt: &impl Abort,
+    alloc: Global,
+    parts: &[&[u8]],
+    items: usize,
+    bytes: usize,
+    ends: &[u8],
+) -> Result<(), Fail> {
+    let mut text = Vec::new(alloc);
+    for part in parts {
+        text.extend_from_slice(part)?;
+    }
+    let load = plain(alloc, &text)?;
+    let run = simulate(alloc, &load)
+        .ok()
+        .ok_or("no memory")
+        .map_err(Fail::from)?;
+    assert_eq!(rt; run.journal.items().len(), items);
+    assert_eq!(rt; run.bytes.len(), bytes);
+    assert!(rt; run.bytes.ends_with(ends));
+    Ok(())
+}
+
+/// The start takes 34 bytes and nine marks 27. The next is refused; after it each needs an overflow
+/// before it, and both are refused, until the host has read.
+#[test]
+fn lost_packets(rt: HostRuntime) -> Result<(), Fail> {
+    let alloc = rt.alloc();
+    let counted = &[0x01, 0x03, 0x04, 0x0f, 0x05, 0x00];
+    let schedule: &[u8] = b"schedule\nstep 0 13\nread 20\nstep 0\n";
+    simulates(&rt, alloc, &[MARKS, schedule], 22, 67, counted)?;
+
+    // Nothing is read before the last step, so that its mark is lost too.
+    let schedule: &[u8] = b"schedule\nstep 0 1048576\n";
+    simulates(&rt, alloc, &[MARKS, schedule], 22, 61, &[0x0f, 0x05, 0x01])?;
+
+    // Everything is read after each step, so that nothing is lost.
+    simulates(&rt, alloc, &[MARKS], 19, 73, &[0x0f, 0x05, 0x01])
+}
+
+/// The packet that says that the recorder stopped is refused, and the mark after it is ignored. It
+/// is pending over the restart, which the overflow after the zeros counts.
+#[test]
+fn restart_after_a_lost_packet(rt: HostRuntime) -> Result<(), Fail> {
+    let marks: &[u8] = b"ring 64\nwriter\n0 start\n1 mark 300\n1 mark 300\n1 mark 300\n\
+1 mark 300\n1 mark 300\n1 mark 300\n1 mark 300\n";
+    let restart: &[u8] = b"1 stop\n1 mark 300\n1 start\n";
+    let schedule: &[u8] = b"schedule\nstep 0 10\nread 40\nstep 0\n";
+    let ends = &[
+        0, 0, 0, 0, 0, 0, 0, 0, 0, 0, 0x01, 0x01, 0x03, 0x0a, 0x00, 0x18, 0x0c, 0xc0, 0x84, 0x3d,
+        0xc0, 0x84, 0x3d, 0x80, 0x80, 0x80, 0x80, 0x02, 0x02, 0x00, 0x0c, 0x0a, 0x00, 0x1b, 0x01,
+        0x00, 0x00,
+    ];
+    simulates(&rt, rt.alloc(), &[marks, restart, schedule], 23, 99, ends)
+}
+
+/// A writer without a step.
+#[test]
+fn nothing_to_do(rt: HostRuntime) -> Result<(), Fail> {
+    simulates(&rt, rt.alloc(), &[b"ring 64\nwriter\n"], 0, 0, &[])
 }

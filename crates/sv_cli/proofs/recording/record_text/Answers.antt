@@ -11,7 +11,7 @@ returns-in_default-clause-recorded g c = record {
   run = c.in-Ok.ensures.run;
   part = subst (λ (bs : List ℕ). AppendsPart (g.K.Sink.written c.args.out.now)
       (g.K.Sink.written c.put_recording.new.out) (header ++ bs))
-      (c.bytes.ensures ∙ c.in-Ok.ensures.sent) c.in_default.ensures.err;
+      (c.as_slice.ensures.value ∙ c.in-Ok.ensures.sent) c.in_default.ensures.err;
 }
 
 pub returns-then-not-has_start-clause-recorded : goal.returns-then-not-has_start-clause-recorded
@@ -22,7 +22,7 @@ returns-then-not-has_start-clause-recorded g c = record {
       c.if-not-has_start.true;
   written = subst (λ (bs : List ℕ). Appends (g.K.Sink.written c.args.out.now)
       (g.K.Sink.written c.put_recording.new.out) (header ++ bs))
-      (c.bytes.ensures ∙ c.in-Ok.ensures.sent) c.in-Ok-put_recording.ensures.ok;
+      (c.as_slice.ensures.value ∙ c.in-Ok.ensures.sent) c.in-Ok-put_recording.ensures.ok;
 }
 
 pub returns-clause-recorded : goal.returns-clause-recorded
@@ -33,5 +33,5 @@ returns-clause-recorded g c = record {
       c.if-not-has_start.false;
   written = subst (λ (bs : List ℕ). Appends (g.K.Sink.written c.args.out.now)
       (g.K.Sink.written c.put_recording.new.out) (header ++ bs))
-      (c.bytes.ensures ∙ c.in-Ok.ensures.sent) c.in-Ok-put_recording.ensures.ok;
+      (c.as_slice.ensures.value ∙ c.in-Ok.ensures.sent) c.in-Ok-put_recording.ensures.ok;
 }

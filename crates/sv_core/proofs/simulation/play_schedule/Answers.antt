@@ -6,7 +6,8 @@ use Rattle.sv_recorder.specs.Recording.{Recording}
 use Rattle.sv_core.specs.Order.{possible}
 use Rattle.sv_core.specs.Played.{IsPlayed}
 use Rattle.sv_core.proofs.OrderParts.{asked_by}
-use Rattle.sv_core.proofs.Playing.{played-steps, played-line, played-send, played-read}
+use Rattle.sv_core.proofs.Playing.{played-read}
+use Rattle.sv_core.proofs.PlayingLines.{played-steps, played-line, played-send}
 use Rattle.sv_core.proofs.simulation.play_schedule.Goals.{in-Step, in-Read, in-Send}
 use Rattle.sv_core.proofs.simulation.play_schedule.Goals as goal
 

@@ -3,7 +3,7 @@ use Rattle.std.specs.Prelude.{max, count_by}
 use Rattle.sv_journal.specs.Items.{is_call_of}
 use Rattle.sv_workload.specs.Load.{Load, script_of}
 use Rattle.sv_workload.specs.Need.{steps_in}
-use Rattle.sv_core.proofs.Playing.{most-more, most-within}
+use Rattle.sv_core.proofs.PlayingLines.{most-more, most-within}
 use Rattle.sv_core.proofs.simulation.rounds_left.Goals as goal
 
 pub loop-writer-preserved : goal.loop-writer-preserved

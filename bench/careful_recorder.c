@@ -1,13 +1,15 @@
 /* The command `record W` in plain C, with the same recording, the same lines and the same exit
  * codes, as one writes it first. It reads the workload whole and makes steps of its lines, of which
- * it cuts the words and then looks at each; then it plays the steps over a ring, from which the
- * host takes everything behind each step, and writes what it took.
- * Usage: careful_recorder record W */
+ * it cuts the words and then looks at each; then it plays the steps in the order of the schedule
+ * over a ring, from which the host takes what the schedule says, keeps a journal of that, and
+ * writes what the host took.
+ * Usage: careful_recorder record W | journal W */
 #include <stdbool.h>
 #include <stdint.h>
 #include <stdio.h>
 #include <stdlib.h>
 #include <string.h>
+#include "journal.h"
 #include "workload.h"
 
 /* More bytes than a recording has. */
@@ -30,6 +32,11 @@ struct step {
 };
 
 static struct step *steps;
+
+/* Which steps are a writer's, and which of them is its next. */
+static struct script {
+    uint32_t first, next, end;
+} scripts[MOST_WRITERS];
 
 static bool number(const byte *word, size_t length, uint64_t *n) {
     if (length == 0 || (length > 1 && word[0] == '0')) return false;
@@ -101,10 +108,7 @@ static bool printable(const struct line *l, const struct form *f) {
 
 static bool repeated(const struct line *l) {
     if (l->keyword < TASK) return told[l->keyword];
-    if (l->keyword == TASK)
-        for (uint32_t i = 0; i < task_count; i++)
-            if (tasks[i] == l->numbers[0]) return true;
-    return false;
+    return l->keyword == TASK && is_task(l->numbers[0]);
 }
 
 /* What a line without a fault adds. */
@@ -114,21 +118,22 @@ static void keep(const struct line *l, const struct form *f, uint64_t advance) {
         told[k] = true;
         settings[k] = (uint32_t)l->numbers[0];
     } else if (k == TASK) {
-        tasks[task_count++] = (uint32_t)l->numbers[0];
+        keep_task(l->numbers, l->text, l->end);
     } else if (k == WRITER) {
-        writers++;
+        scripts[writers++] = (struct script){step_count, step_count, step_count};
     } else if (k == SCHEDULE) {
         scheduled = true;
     } else if (k < START) {
-        turns++;
+        keep_turn(k, l->numbers, l->count);
     } else {
         struct step *s = &steps[step_count++];
         s->advance = advance;
         s->keyword = (byte)k;
         s->count = (byte)l->count;
         for (int i = 0; i < l->count; i++) s->numbers[i] = (uint32_t)l->numbers[i];
-        if (f->identifier) s->numbers[0] = offset(l->numbers[0]) >> settings[SHIFT];
+        if (f->identifier) s->numbers[0] = shrunk(l->numbers[0]);
         if (f->text) s->text = l->text, s->text_length = (byte)(l->end - l->text);
+        scripts[writers - 1].end = step_count;
         starts += k == START;
     }
 }
@@ -168,25 +173,27 @@ static int take_line(const byte *at, const byte *end) {
 static byte ring[65536], *sent;
 static size_t wr, rd, taken;
 
+static size_t held(void) { return wr >= rd ? wr - rd : wr + settings[RING] - rd; }
+
 static bool store(const byte *block, size_t length) {
-    size_t size = settings[RING], held = wr >= rd ? wr - rd : wr + size - rd;
-    if (length > size - 1 - held) return false;
+    size_t size = settings[RING];
+    if (length > size - 1 - held()) return false;
     size_t first = length < size - wr ? length : size - wr;
     memcpy(ring + wr, block, first);
-    memcpy(ring, block + first, length - first);
+    if (first < length) memcpy(ring, block + first, length - first);
     wr = wr + length < size ? wr + length : wr + length - size;
     return true;
 }
 
-static void take_all(void) {
-    if (rd > wr) {
-        memcpy(sent + taken, ring + rd, settings[RING] - rd);
-        taken += settings[RING] - rd;
-        rd = 0;
-    }
-    memcpy(sent + taken, ring + rd, wr - rd);
-    taken += wr - rd;
-    rd = wr;
+/* The host takes what is stored, at most so many bytes. */
+static void take(size_t most) {
+    size_t size = settings[RING], length = held();
+    if (length > most) length = most;
+    size_t first = length < size - rd ? length : size - rd;
+    memcpy(sent + taken, ring + rd, first);
+    if (first < length) memcpy(sent + taken + first, ring, length - first);
+    rd = rd + length < size ? rd + length : rd + length - size;
+    taken += length;
 }
 
 static byte *put_number(byte *at, uint32_t n) {
@@ -213,56 +220,119 @@ static bool store_packet(unsigned id, const byte *payload, size_t length) {
     return true;
 }
 
-static void record(unsigned id, const byte *payload, size_t length) {
-    if (!on) return;
-    if (pending > 0) {
-        byte count[5];
-        if (!store_packet(1, count, (size_t)(put_number(count, pending) - count))) {
-            pending++;
-            return;
-        }
-    }
-    pending = !store_packet(id, payload, length);
+static void note_here(struct origin from, enum outcome outcome) {
+    note(from, outcome, moment, taken);
 }
 
-static void record_numbers(unsigned id, const uint32_t *numbers, int count) {
-    byte payload[64], *at = payload;
+static bool store_overflow(void) {
+    byte count[5];
+    bool stored = store_packet(1, count, (size_t)(put_number(count, pending) - count));
+    note_here((struct origin){pending, OVERFLOW, 0}, stored ? STORED : REFUSED);
+    return stored;
+}
+
+static void record(struct origin from, unsigned id, const byte *payload, size_t length) {
+    if (!on) {
+        note_here(from, IGNORED);
+    } else if (pending > 0 && !store_overflow()) {
+        note_here(from, REFUSED);
+        pending++;
+    } else {
+        bool stored = store_packet(id, payload, length);
+        note_here(from, stored ? STORED : REFUSED);
+        pending = !stored;
+    }
+}
+
+static byte *put_numbers(byte *at, const uint32_t *numbers, int count) {
     for (int i = 0; i < count; i++) at = put_number(at, numbers[i]);
-    record(id, payload, (size_t)(at - payload));
+    return at;
+}
+
+static byte *put_text(byte *at, const byte *text, size_t length) {
+    *at++ = (byte)length;
+    memcpy(at, text, length);
+    return at + length;
+}
+
+static void record_numbers(struct origin from, unsigned id, const uint32_t *numbers, int count) {
+    byte payload[64];
+    record(from, id, payload, (size_t)(put_numbers(payload, numbers, count) - payload));
+}
+
+static void reply(unsigned id, const uint32_t *numbers, int count) {
+    record_numbers((struct origin){0, REPLY, (byte)id}, id, numbers, count);
+}
+
+static void describe_task(uint32_t index) {
+    const struct task *t = &tasks[index];
+    byte payload[64], *at = put_text(put_numbers(payload, t->numbers, 2), t->name, t->name_length);
+    record((struct origin){index, REPLY, 9}, 9, payload, (size_t)(at - payload));
+    uint32_t stack[] = {t->numbers[0], t->numbers[2], t->numbers[3], t->numbers[4]};
+    record_numbers((struct origin){index, REPLY, 21}, 21, stack, 4);
 }
 
 static void start(void) {
     static const byte zeros[10];
     on = true;
-    store(zeros, sizeof zeros);
-    record_numbers(10, NULL, 0);
-    record_numbers(24, settings + CLOCK, 4);
-    record_numbers(12, (uint32_t[]){(uint32_t)moment}, 1);
-    record_numbers(27, (uint32_t[]){0}, 1);
+    bool stored = store(zeros, sizeof zeros);
+    note_here((struct origin){0, SYNC, 0}, stored ? STORED : REFUSED);
+    reply(10, NULL, 0);
+    reply(24, settings + CLOCK, 4);
+    reply(12, (uint32_t[]){(uint32_t)moment}, 1);
+    for (uint32_t i = 0; i < task_count; i++) describe_task(i);
+    reply(27, (uint32_t[]){0}, 1);
+}
+
+static void stop(void) {
+    reply(11, NULL, 0);
+    on = false;
 }
 
 /* A text behind the numbers of its step, and a print's options and arguments behind it. */
-static void record_text(unsigned id, const struct step *s) {
-    byte payload[160], *at = payload;
-    for (int i = 0; i < s->count; i++) at = put_number(at, s->numbers[i]);
-    *at++ = s->text_length;
-    memcpy(at, s->text, s->text_length);
-    at += s->text_length;
+static void record_text(struct origin from, unsigned id, const struct step *s) {
+    byte payload[160], *at = put_numbers(payload, s->numbers, s->count);
+    at = put_text(at, s->text, s->text_length);
     if (id == 26) *at++ = 0, *at++ = 0;
-    record(id, payload, (size_t)(at - payload));
+    record(from, id, payload, (size_t)(at - payload));
 }
 
-static void play(const struct step *s) {
+static void play(struct origin from, const struct step *s) {
     moment += s->advance;
     switch (s->keyword) {
-    case START: start(); break;
-    case STOP: record_numbers(11, NULL, 0), on = false; break;
-    case NAME: record_text(25, s); break;
-    case PRINT: record_text(26, s); break;
-    case CALL: record_numbers(s->numbers[0], s->numbers + 1, s->count - 1); break;
-    default: record_numbers(plain_ids[s->keyword], s->numbers, s->count);
+    case START: note_here(from, HANDLED), start(); break;
+    case STOP: note_here(from, HANDLED), stop(); break;
+    case NAME: record_text(from, 25, s); break;
+    case PRINT: record_text(from, 26, s); break;
+    case CALL: record_numbers(from, s->numbers[0], s->numbers + 1, s->count - 1); break;
+    default: record_numbers(from, plain_ids[s->keyword], s->numbers, s->count);
     }
-    take_all();
+}
+
+/* The next step of a writer; false where its script is through. */
+static bool take_step(uint32_t writer) {
+    struct script *script = &scripts[writer];
+    if (script->next == script->end) return false;
+    uint32_t step = script->next++;
+    play((struct origin){step - script->first, CALLED, (byte)writer}, &steps[step]);
+    return true;
+}
+
+static void take_turn(const struct turn *t) {
+    if (t->reads) take(t->count);
+    else
+        for (uint32_t i = 0; i < t->count && take_step(t->writer); i++) continue;
+}
+
+/* A step of each writer that has one left, and behind each the host takes all. */
+static bool take_round(void) {
+    bool any = false;
+    for (uint32_t writer = 0; writer < writers; writer++) {
+        if (!take_step(writer)) continue;
+        take(MOST_RING);
+        any = true;
+    }
+    return any;
 }
 
 static int fail(int code, const char *line) {
@@ -271,13 +341,15 @@ static int fail(int code, const char *line) {
 }
 
 int main(int argc, char **argv) {
-    if (argc != 3 || strcmp(argv[1], "record") != 0) return 2;
+    bool journal = argc == 3 && strcmp(argv[1], "journal") == 0;
+    if (argc != 3 || (!journal && strcmp(argv[1], "record") != 0)) return 2;
     FILE *file = fopen(argv[2], "rb");
     if (!file) return fail(3, "read fault\n");
     byte *text = malloc(MOST_BYTES + 1);
     steps = malloc(MOST_STEPS * sizeof *steps);
+    turns = malloc(MOST_TURNS * sizeof *turns);
     sent = malloc(MOST_SENT);
-    if (!text || !steps || !sent) return fail(10, "no memory\n");
+    if (!text || !steps || !turns || !sent) return fail(10, "no memory\n");
     size_t length = fread(text, 1, MOST_BYTES + 1, file);
     if (ferror(file)) return fail(3, "read fault\n");
     if (length > MOST_BYTES) return fail(9, "longer than 67108864\n");
@@ -292,11 +364,14 @@ int main(int argc, char **argv) {
         }
         at = stop + 1;
     }
-    if (writers != 1 || task_count > 0 || scheduled || settings[RING] < 1024) {
-        fprintf(stderr, "not built at %zu\n", length);
-        return 11;
+    if (!reserve_items()) return fail(10, "no memory\n");
+    for (uint32_t i = 0; i < turn_count; i++) take_turn(&turns[i]);
+    while (take_round()) continue;
+    take(MOST_RING);
+    if (journal) {
+        print_journal();
+        return 0;
     }
-    for (uint32_t i = 0; i < step_count; i++) play(&steps[i]);
     fputs("; sysview recording\n", stdout);
     if (fwrite(sent, 1, taken, stdout) != taken || fflush(stdout)) return fail(4, "write fault\n");
     return starts > 0 ? 0 : fail(7, "no sync\n");

@@ -1,8 +1,10 @@
 /* The command `record W` in plain C, with the same recording, the same lines and the same exit
  * codes, as fast as it gets without threads or vector instructions. It reads the workload whole
- * and makes steps of its lines, each in one pass; then it plays the steps over a ring, from which
- * the host takes everything behind each step, and writes what it took whenever a buffer is full.
- * Usage: recorder record W */
+ * and makes steps of its lines, each in one pass; then it plays them in the order of the schedule,
+ * keeps a journal of that, and writes whenever a buffer is full. What the host takes from a ring is
+ * what was stored, in that order, so each packet is formed where it is written from, and of the
+ * ring only the room is kept.
+ * Usage: recorder record W | journal W */
 #define _POSIX_C_SOURCE 200809L
 #include <fcntl.h>
 #include <stdbool.h>
@@ -11,6 +13,7 @@
 #include <stdlib.h>
 #include <string.h>
 #include <unistd.h>
+#include "journal.h"
 #include "workload.h"
 
 /* A step takes room for the numbers that it has. */
@@ -30,6 +33,12 @@ struct line {
 };
 
 static byte *steps, *steps_end;
+
+/* Where a writer's next step is, and where its steps end; `step` is how many it has taken. */
+static struct script {
+    const byte *next, *end;
+    uint32_t step;
+} scripts[MOST_WRITERS];
 
 /* Passes over the word, which a space or a line feed ends. In `good` stays whether all words so far
  * are numbers. One of more than 19 digits is the largest of all, past every limit. */
@@ -115,10 +124,7 @@ static bool printable(const byte *text, size_t length) {
 
 static bool repeated(const struct line *l) {
     if (l->keyword < TASK) return told[l->keyword];
-    if (l->keyword == TASK)
-        for (uint32_t i = 0; i < task_count; i++)
-            if (tasks[i] == l->numbers[0]) return true;
-    return false;
+    return l->keyword == TASK && is_task(l->numbers[0]);
 }
 
 static inline size_t step_size(const struct step *s) {
@@ -132,23 +138,23 @@ static void keep(const struct line *l, const struct form *f) {
         told[k] = true;
         settings[k] = (uint32_t)l->numbers[0];
     } else if (k == TASK) {
-        tasks[task_count++] = (uint32_t)l->numbers[0];
+        keep_task(l->numbers, l->text, l->end);
     } else if (k == WRITER) {
-        writers++;
+        scripts[writers++] = (struct script){steps_end, steps_end, 0};
     } else if (k == SCHEDULE) {
         scheduled = true;
     } else if (k < START) {
-        turns++;
+        keep_turn(k, l->numbers, l->count);
     } else {
         struct step *s = (struct step *)steps_end;
         s->advance = l->advance;
         s->keyword = (byte)k;
         s->count = (byte)l->count;
         for (int i = 0; i < l->count; i++) s->numbers[i] = (uint32_t)l->numbers[i];
-        if (f->identifier) s->numbers[0] = offset(l->numbers[0]) >> settings[SHIFT];
+        if (f->identifier) s->numbers[0] = shrunk(l->numbers[0]);
         s->text = l->text;
         s->text_length = f->text ? (byte)(l->end - l->text) : 0;
-        steps_end += step_size(s);
+        scripts[writers - 1].end = steps_end += step_size(s);
         step_count++;
         starts += k == START;
     }
@@ -189,44 +195,42 @@ static int fail(int code, const char *line) {
     return code;
 }
 
-/* The ring, and what the host has taken from it and not yet written. */
-static byte ring[MOST_RING], sent[4 * MOST_RING];
-static size_t wr, rd, taken;
+/* No packet is longer, and no ten zeros are. */
+enum { MOST_PACKET = 192 };
+
+/* What was stored and is not yet written; the room of the ring; how many bytes the host took. */
+static byte sent[1 << 18];
+static size_t stored, room;
+static uint64_t freed;
+static bool journal;
 
 static void write_all(void) {
-    for (size_t from = 0; from < taken;) {
-        ssize_t wrote = write(1, sent + from, taken - from);
+    for (size_t from = journal ? stored : 0; from < stored;) {
+        ssize_t wrote = write(1, sent + from, stored - from);
         if (wrote < 0) exit(fail(4, "write fault\n"));
         from += (size_t)wrote;
     }
-    taken = 0;
+    stored = 0;
 }
 
-static bool store(const byte *block, size_t length) {
-    size_t size = settings[RING], held = wr >= rd ? wr - rd : wr + size - rd;
-    if (length > size - 1 - held) return false;
-    if (length < size - wr) {
-        memcpy(ring + wr, block, length);
-        wr += length;
-    } else {
-        size_t first = size - wr;
-        memcpy(ring + wr, block, first);
-        memcpy(ring, block + first, length - first);
-        wr = length - first;
-    }
+/* Where the next block is formed. It counts once it is stored. */
+static inline byte *begin(void) {
+    if (sizeof sent - stored < MOST_PACKET) write_all();
+    return sent + stored;
+}
+
+static inline bool store(const byte *end) {
+    size_t length = (size_t)(end - (sent + stored));
+    if (length > room) return false;
+    room -= length;
+    stored += length;
     return true;
 }
 
-static void take_all(void) {
-    if (sizeof sent - taken < MOST_RING) write_all();
-    if (rd > wr) {
-        memcpy(sent + taken, ring + rd, settings[RING] - rd);
-        taken += settings[RING] - rd;
-        rd = 0;
-    }
-    memcpy(sent + taken, ring + rd, wr - rd);
-    taken += wr - rd;
-    rd = wr;
+static inline void take(size_t most) {
+    size_t held = settings[RING] - 1 - room, length = held < most ? held : most;
+    room += length;
+    freed += length;
 }
 
 static inline byte *put_number(byte *at, uint32_t n) {
@@ -238,83 +242,164 @@ static inline byte *put_number(byte *at, uint32_t n) {
     return at;
 }
 
+static inline byte *put_numbers(byte *at, const uint32_t *numbers, int count) {
+    for (int i = 0; i < count; i++) at = put_number(at, numbers[i]);
+    return at;
+}
+
+static inline byte *put_text(byte *at, const byte *text, size_t length) {
+    *at++ = (byte)length;
+    memcpy(at, text, length);
+    return at + length;
+}
+
 static bool on;
 static uint64_t moment, last;
 static uint32_t pending;
 
-/* A packet is made around its payload: HEAD bytes before it are free for the identifier and the
- * length, and some behind it for the delta. */
-enum { HEAD = 8, MOST_PACKET = HEAD + 160 + 8 };
-
-static inline byte *put_two_before(byte *at, unsigned n) {
-    if (n < 0x80) {
-        *--at = (byte)n;
-        return at;
-    }
-    *--at = (byte)(n >> 7);
-    *--at = (byte)(n | 0x80);
-    return at;
-}
-
-static inline bool store_packet(unsigned id, byte *payload, byte *end) {
-    byte *from = payload;
-    if (id >= 24) from = put_two_before(from, (unsigned)(end - payload));
-    from = put_two_before(from, id);
-    end = put_number(end, (uint32_t)(moment - last));
-    if (!store(from, (size_t)(end - from))) return false;
+static inline bool store_packet(byte *end) {
+    if (!store(put_number(end, (uint32_t)(moment - last)))) return false;
     last = moment;
     return true;
 }
 
+static inline void note_here(struct origin from, enum outcome outcome) {
+    note(from, outcome, moment, freed);
+}
+
 static bool store_overflow(void) {
-    byte packet[MOST_PACKET];
-    return store_packet(1, packet + HEAD, put_number(packet + HEAD, pending));
+    byte *at = begin();
+    *at = 1;
+    bool good = store_packet(put_number(at + 1, pending));
+    note_here((struct origin){pending, OVERFLOW, 0}, good ? STORED : REFUSED);
+    return good;
 }
 
-static inline void record(unsigned id, byte *payload, byte *end) {
-    if (!on) return;
-    if (pending > 0 && !store_overflow()) pending++;
-    else pending = !store_packet(id, payload, end);
+/* Whether a packet is formed now; if not, that is noted. */
+static inline bool ready(struct origin from) {
+    if (!on) {
+        note_here(from, IGNORED);
+        return false;
+    }
+    if (pending > 0 && !store_overflow()) {
+        note_here(from, REFUSED);
+        pending++;
+        return false;
+    }
+    return true;
 }
 
-static void record_numbers(unsigned id, const uint32_t *numbers, int count) {
-    byte packet[MOST_PACKET], *at = packet + HEAD;
-    for (int i = 0; i < count; i++) at = put_number(at, numbers[i]);
-    record(id, packet + HEAD, at);
+static inline void finish(struct origin from, byte *end) {
+    bool good = store_packet(end);
+    note_here(from, good ? STORED : REFUSED);
+    pending = !good;
+}
+
+static inline void record_short(struct origin from, byte id, const uint32_t *numbers, int count) {
+    if (!ready(from)) return;
+    byte *at = begin();
+    *at = id;
+    finish(from, put_numbers(at + 1, numbers, count));
+}
+
+/* With a length, of one byte: the numbers are no more than eight. */
+static void record_long(struct origin from, unsigned id, const uint32_t *numbers, int count) {
+    if (!ready(from)) return;
+    byte *length = put_number(begin(), id), *end = put_numbers(length + 1, numbers, count);
+    *length = (byte)(end - length - 1);
+    finish(from, end);
+}
+
+static void record_name(struct origin from, const struct step *s) {
+    if (!ready(from)) return;
+    byte resource[5], *at = begin();
+    size_t length = (size_t)(put_number(resource, s->numbers[0]) - resource);
+    *at = 25;
+    at = put_number(at + 1, (uint32_t)length + 1 + s->text_length);
+    at = put_number(at, s->numbers[0]);
+    finish(from, put_text(at, s->text, s->text_length));
+}
+
+/* Behind the text stand the options and the number of arguments. */
+static void record_print(struct origin from, const struct step *s) {
+    if (!ready(from)) return;
+    byte *at = begin();
+    *at = 26;
+    at = put_text(put_number(at + 1, 3 + s->text_length), s->text, s->text_length);
+    at[0] = at[1] = 0;
+    finish(from, at + 2);
+}
+
+static void describe_task(uint32_t index) {
+    const struct task *t = &tasks[index];
+    struct origin info = {index, REPLY, 9}, stack = {index, REPLY, 21};
+    if (ready(info)) {
+        byte *at = begin();
+        *at = 9;
+        at = put_numbers(at + 1, t->numbers, 2);
+        finish(info, put_text(at, t->name, t->name_length));
+    }
+    const uint32_t numbers[] = {t->numbers[0], t->numbers[2], t->numbers[3], t->numbers[4]};
+    record_short(stack, 21, numbers, 4);
 }
 
 static void start(void) {
-    static const byte zeros[10];
     on = true;
-    store(zeros, sizeof zeros);
-    record_numbers(10, NULL, 0);
-    record_numbers(24, settings + CLOCK, 4);
-    record_numbers(12, (uint32_t[]){(uint32_t)moment}, 1);
-    record_numbers(27, (uint32_t[]){0}, 1);
+    bool good = store((byte *)memset(begin(), 0, 10) + 10);
+    note_here((struct origin){0, SYNC, 0}, good ? STORED : REFUSED);
+    record_short((struct origin){0, REPLY, 10}, 10, NULL, 0);
+    record_long((struct origin){0, REPLY, 24}, 24, settings + CLOCK, 4);
+    record_short((struct origin){0, REPLY, 12}, 12, (uint32_t[]){(uint32_t)moment}, 1);
+    for (uint32_t i = 0; i < task_count; i++) describe_task(i);
+    record_long((struct origin){0, REPLY, 27}, 27, (uint32_t[]){0}, 1);
 }
 
-/* A text behind the numbers of its step, and a print's options and arguments behind it. */
-static void record_text(unsigned id, const struct step *s) {
-    byte packet[MOST_PACKET], *at = packet + HEAD;
-    for (int i = 0; i < s->count; i++) at = put_number(at, s->numbers[i]);
-    *at++ = s->text_length;
-    memcpy(at, s->text, s->text_length);
-    at += s->text_length;
-    if (id == 26) *at++ = 0, *at++ = 0;
-    record(id, packet + HEAD, at);
+static void stop(void) {
+    record_short((struct origin){0, REPLY, 11}, 11, NULL, 0);
+    on = false;
 }
 
-static inline void play(const struct step *s) {
+static inline void play(struct origin from, const struct step *s) {
     moment += s->advance;
     switch (s->keyword) {
-    case START: start(); break;
-    case STOP: record_numbers(11, NULL, 0), on = false; break;
-    case NAME: record_text(25, s); break;
-    case PRINT: record_text(26, s); break;
-    case CALL: record_numbers(s->numbers[0], s->numbers + 1, s->count - 1); break;
-    default: record_numbers(plain_ids[s->keyword], s->numbers, s->count);
+    case START: note_here(from, HANDLED), start(); break;
+    case STOP: note_here(from, HANDLED), stop(); break;
+    case NAME: record_name(from, s); break;
+    case PRINT: record_print(from, s); break;
+    case CALL: record_long(from, s->numbers[0], s->numbers + 1, s->count - 1); break;
+    case TERMINATE:
+    case RETURN: record_long(from, plain_ids[s->keyword], s->numbers, s->count); break;
+    default: record_short(from, plain_ids[s->keyword], s->numbers, s->count);
     }
-    take_all();
+}
+
+static inline void take_step(uint32_t writer) {
+    struct script *script = &scripts[writer];
+    const struct step *s = (const struct step *)script->next;
+    script->next += step_size(s);
+    play((struct origin){script->step++, CALLED, (byte)writer}, s);
+}
+
+static inline bool is_through(uint32_t writer) {
+    return scripts[writer].next == scripts[writer].end;
+}
+
+static void take_turn(const struct turn *t) {
+    if (t->reads) take(t->count);
+    else
+        for (uint32_t i = 0; i < t->count && !is_through(t->writer); i++) take_step(t->writer);
+}
+
+/* A step of each writer that has one left, and behind each the host takes all. */
+static bool take_round(void) {
+    bool any = false;
+    for (uint32_t writer = 0; writer < writers; writer++) {
+        if (is_through(writer)) continue;
+        take_step(writer);
+        take(MOST_RING);
+        any = true;
+    }
+    return any;
 }
 
 /* The bytes of the file, at most one more than a workload may have; -1 where they cannot be
@@ -332,11 +417,13 @@ static ssize_t read_all(const char *name, byte *text) {
 
 int main(int argc, char **argv) {
     static const char header[] = "; sysview recording\n";
-    if (argc != 3 || strcmp(argv[1], "record") != 0) return 2;
+    journal = argc == 3 && strcmp(argv[1], "journal") == 0;
+    if (argc != 3 || (!journal && strcmp(argv[1], "record") != 0)) return 2;
     /* Behind the text stand a line feed and what a keyword of 8 bytes may read past it. */
     byte *text = malloc(MOST_BYTES + 16);
     steps = steps_end = malloc(MOST_STEPS * (sizeof(struct step) + 40));
-    if (!text || !steps) return fail(10, "no memory\n");
+    turns = malloc(MOST_TURNS * sizeof *turns);
+    if (!text || !steps || !turns) return fail(10, "no memory\n");
     ssize_t length = read_all(argv[2], text);
     if (length < 0) return fail(3, "read fault\n");
     if (length > MOST_BYTES) return fail(9, "longer than 67108864\n");
@@ -353,13 +440,16 @@ int main(int argc, char **argv) {
         }
         at = stop + 1;
     }
-    if (writers != 1 || task_count > 0 || scheduled || settings[RING] < 1024) {
-        fprintf(stderr, "not built at %zd\n", length);
-        return 11;
+    if (!reserve_items()) return fail(10, "no memory\n");
+    memcpy(sent, header, stored = sizeof header - 1);
+    room = settings[RING] - 1;
+    for (uint32_t i = 0; i < turn_count; i++) take_turn(&turns[i]);
+    while (take_round()) continue;
+    take(MOST_RING);
+    if (journal) {
+        print_journal();
+        return 0;
     }
-    memcpy(sent, header, taken = sizeof header - 1);
-    for (const byte *at = steps; at < steps_end; at += step_size((const struct step *)at))
-        play((const struct step *)at);
     write_all();
     return starts > 0 ? 0 : fail(7, "no sync\n");
 }

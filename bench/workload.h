@@ -9,6 +9,7 @@
 typedef unsigned char byte;
 
 enum { MOST_BYTES = 1 << 26, MOST_STEPS = 1 << 20, MOST_TURNS = 1 << 20, MOST_RING = 65536 };
+enum { MOST_WRITERS = 16 };
 enum {
     UNKNOWN_WORD = 1, SHAPE, NUMBER, REPEATED, TOO_MANY, UNALIGNED, MISPLACED, BAD_TEXT, NO_WRITER
 };
@@ -69,10 +70,26 @@ static const byte plain_ids[] = {
     [CREATE] = 8, [TERMINATE] = 29, [MARK] = 15, [MARK_END] = 16, [IDLE] = 17, [SCHED] = 18,
     [TIMER] = 19, [TIMER_EXIT] = 20, [RETURN] = 28};
 
+/* A task, whose identifier is the first of its numbers, as it is sent. */
+struct task {
+    uint32_t numbers[5];
+    const byte *name;
+    byte name_length;
+};
+
+/* A line of the schedule: `count` steps of a writer, or a read of at most `count` bytes. */
+struct turn {
+    uint32_t count;
+    byte writer;
+    bool reads;
+};
+
 /* What the lines so far have said. */
 static uint32_t settings[5] = {1024, 1000000, 1000000, 536870912, 2};
 static bool told[5], scheduled;
-static uint32_t tasks[32], task_count, writers, step_count, starts, turns;
+static struct task tasks[32];
+static struct turn *turns;
+static uint32_t task_count, writers, step_count, starts, turn_count;
 
 static bool may_stand(enum keyword k) {
     if (k < TASK) return writers == 0 && !((k == BASE || k == SHIFT) && task_count > 0);
@@ -84,11 +101,35 @@ static bool may_stand(enum keyword k) {
 
 static bool too_many(enum keyword k) {
     if (k == TASK) return task_count == 32;
-    if (k == WRITER) return writers == 16;
-    if (k == STEP || k == READ) return turns == MOST_TURNS;
+    if (k == WRITER) return writers == MOST_WRITERS;
+    if (k == STEP || k == READ) return turn_count == MOST_TURNS;
     return k >= START && (step_count == MOST_STEPS || (k == START && starts == 256));
 }
 
 static uint32_t offset(uint64_t id) { return (uint32_t)id - settings[BASE]; }
+
+static uint32_t shrunk(uint64_t id) { return offset(id) >> settings[SHIFT]; }
+
+static bool is_task(uint64_t id) {
+    for (uint32_t i = 0; i < task_count; i++)
+        if (tasks[i].numbers[0] == shrunk(id)) return true;
+    return false;
+}
+
+static void keep_task(const uint64_t *numbers, const byte *name, const byte *end) {
+    struct task *t = &tasks[task_count++];
+    t->numbers[0] = shrunk(numbers[0]);
+    for (int i = 1; i < 5; i++) t->numbers[i] = (uint32_t)numbers[i];
+    t->name = name;
+    t->name_length = (byte)(end - name);
+}
+
+/* COUNT of `step` is 1 where it is left out. */
+static void keep_turn(enum keyword k, const uint64_t *numbers, int count) {
+    struct turn *t = &turns[turn_count++];
+    t->reads = k == READ;
+    t->writer = t->reads ? 0 : (byte)numbers[0];
+    t->count = t->reads ? (uint32_t)numbers[0] : count > 1 ? (uint32_t)numbers[1] : 1;
+}
 
 #endif

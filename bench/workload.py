@@ -1,9 +1,12 @@
 """Writes a workload of exactly so many bytes and steps to standard output: a small system that is
 started once and then runs. Of 100 steps some 26 are task switches by identifiers, 22 interrupts and
 their ends, 14 tasks that get ready or wait, 14 marks, 10 calls and their returns, 2 timers, and 12
-carry a text. Remarks fill what is left. It draws from a fixed seed, so that the same words give the
-same bytes everywhere.
-Usage: workload.py BYTES STEPS    at least 64 bytes for each step"""
+carry a text. Remarks fill what is left. With `overflow` it is instead a system of four writers and
+two tasks with a ring of 256 bytes, from which the host reads too little at times, so that of 15
+packets one or so is lost; it has no remarks. They draw from a fixed seed, so that the same
+words give the same bytes everywhere.
+Usage: workload.py BYTES STEPS    at least 64 bytes for each step
+       workload.py overflow STEPS"""
 import sys
 
 PROSE = (
@@ -64,13 +67,34 @@ def act(draw):
     return f"print {prose(draw, 16 + draw.below(113))}"
 
 
-def main():
-    size, steps = int(sys.argv[1]), int(sys.argv[2])
+def ticks(draw):
+    return 1 + draw.below(120 if draw.below(8) else 3000)
+
+
+def overflowing(steps):
+    """The schedule takes some seven of eight steps, and leaves the others for the rounds."""
+    draw = Draw()
+    print("; written by workload.py\nring 256")
+    for task, name in zip(TASKS, ("Radio", "Sensor")):
+        print(f"task {task} 5 {task + 65536} 1024 0 {name}")
+    for writer in range(4):
+        print("writer" if writer else "writer\n0 start")
+        for _ in range(0 if writer else 1, (steps + 3 - writer) // 4):
+            print(f"{ticks(draw)} {act(draw)}")
+    print("schedule")
+    taken = 0
+    while taken < steps * 7 // 8:
+        count = 1 + draw.below(15)
+        taken += count
+        print(f"step {draw.below(4)} {count}\nread {32 + draw.below(80)}")
+
+
+def filled(size, steps):
     draw = Draw()
     out = ["; written by workload.py\nring 4096\nwriter\n0 start\n"]
     written = len(out[0])
     for k in range(2, steps + 1):
-        line = f"{1 + draw.below(120 if draw.below(8) else 3000)} {act(draw)}\n"
+        line = f"{ticks(draw)} {act(draw)}\n"
         out.append(line)
         written += len(line)
         # A line of a remark has two bytes at least, and is kept to a width.
@@ -87,4 +111,7 @@ def main():
     sys.stdout.write(text)
 
 
-main()
+if sys.argv[1] == "overflow":
+    overflowing(int(sys.argv[2]))
+else:
+    filled(int(sys.argv[1]), int(sys.argv[2]))

@@ -1,7 +1,8 @@
-"""Workloads and recordings by seed, some valid and some not, for bench/compare: every keyword,
-numbers at their limits and past them, words that miss or are too many, texts too long or with bytes
-that no text has, lines at wrong places, settings and tasks told twice, remarks, empty lines and
-line ends of two bytes.
+"""Workloads and recordings by seed, some valid and some not, for bench/compare and bench/against:
+every keyword, up to 16 writers, tasks, small rings and schedules that let them overflow, numbers at
+their limits and past them, words that miss or are too many, texts too long or with bytes that no
+text has, lines at wrong places, settings and tasks told twice, remarks, empty lines and line ends
+of two bytes.
 Usage: workloads.py SEED > W"""
 import random
 import sys
@@ -77,31 +78,44 @@ class Maker:
         numbers = " ".join(str(self.number()) for _ in range(4))
         return id, f"task {id} {numbers} {self.text(32)}"
 
-    def settings(self, plain):
+    def settings(self):
         r, out = self.r, []
+        if r.random() < 0.6:
+            out.append(f"ring {r.choice([64, 65, 100, 128, 256, 300, 1000])}")
         for name in r.sample(list(SETTINGS), r.choice([0, 0, 1, 2, 5])):
+            if name == "ring" and out:
+                continue
             least, most = SETTINGS[name]
-            n = self.number(1024 if plain and name == "ring" else least, most)
+            n = self.number(least, most)
             if name == "base":
                 self.base = n
             if name == "shift":
                 self.shift = n
             out.append(f"{name} {n}")
+        r.shuffle(out)
         return out
 
-    def valid(self):
-        """Lines without a fault; most of them are what `record` takes."""
+    def turn(self, writers):
         r = self.r
-        plain = r.random() < 0.75
-        out = self.settings(plain)
-        if not plain and r.random() < 0.6:
+        if r.random() < 0.4:
+            most = r.choice([1, 40, 300, 65536])
+            return f"read {r.choice([r.randint(1, most), self.number(1, most)])}"
+        step = f"step {r.randrange(writers)}"
+        count = r.choice([0, r.randint(1, 5), r.randint(1, 40), self.number(1, 1048576)])
+        return f"{step} {count}" if count else step
+
+    def valid(self):
+        """Lines without a fault."""
+        r = self.r
+        out = self.settings()
+        if r.random() < 0.4:
             told = set()
-            for _ in range(r.choice([1, 2, 5, 32])):
+            for _ in range(r.choice([1, 1, 2, 5, 32])):
                 id, line = self.task()
                 if id not in told:
                     out.append(line)
                 told.add(id)
-        writers = 1 if plain else r.choice([1, 1, 2, 3, 16])
+        writers = r.choice([1, 1, 1, 2, 3, 4, 16])
         starts = 0
         for _ in range(writers):
             out.append("writer")
@@ -109,19 +123,16 @@ class Maker:
                 # else most scripts would record nothing
                 out.append(self.step("start"))
                 starts += 1
-            for _ in range(r.choice([0, 1, 3, 10, 30])):
+            for _ in range(r.choice([0, 1, 3, 10, 30, 60])):
                 line = self.step("start" if r.random() < 0.1 else None)
                 starts += " start" in line
                 if starts <= 256:
                     out.append(line)
-        if plain and r.random() < 0.03:
+        if r.random() < 0.03:
             out.extend(["0 start"] * max(256 - starts, 0))
-        if not plain and r.random() < 0.5:
+        if r.random() < 0.7:
             out.append("schedule")
-            for _ in range(r.choice([0, 1, 5, 20])):
-                step = f"step {r.randrange(writers)}"
-                many = f"{step} {self.number(1, 1048576)}"
-                out.append(r.choice([step, many, f"read {self.number(1, 65536)}"]))
+            out.extend(self.turn(writers) for _ in range(r.choice([0, 1, 5, 20, 60])))
         return out
 
     def change(self, lines):
@@ -272,6 +283,18 @@ class Maker:
         if r.random() < 0.4:
             del out[r.randrange(len(out) + 1):]
         return bytes(out)
+
+
+def limits():
+    """Workloads as long as one may be, and one more, by their names."""
+    step, turn = b"0 nop\n" * 2**20, b"read 1\n" * 2**20
+    yield "most steps", b"writer\n" + step
+    yield "a step more", b"writer\n" + step + b"0 nop\n"
+    yield "most turns", b"writer\nschedule\n" + turn
+    yield "a turn more", b"writer\nschedule\n" + turn + b"read 1\n"
+    yield "most steps a turn", b"writer\nschedule\n" + b"step 0 1048576\n" * 2**20
+    yield "most bytes", b"writer\n0 start\n" + b";" * (2**26 - 15)
+    yield "a byte more", b"writer\n0 start\n" + b";" * (2**26 - 14)
 
 
 def workload(seed):

@@ -202,7 +202,7 @@ played-all load recorder rounds are p = record {
       (sym (order_played load rounds p.unasked are)) p.ordered;
 }
 
--- as many rounds as are left to the writer that has most of them
+-- the most steps that any writer has left are rounds enough
 pub are-enough : (load : Load) (recorder : Recording) (rounds : ℕ)
     → IsPlayed load (scheduled load) recorder
     → ((writer : ℕ) → writer < length load.scripts

@@ -135,7 +135,7 @@ part_idle load rounds writer below idle =
 
 -- THE WHOLE ORDER
 
--- as many rounds as the writer has steps that has most of them
+-- so many rounds that each writer takes what the schedule left of its script
 pub record AreEnough (load : Load) (rounds : ℕ) : Type 0 where
   pub enough : (writer : ℕ) → writer < length load.scripts
       → length (script_of load writer) ≤ scheduled_of load writer + rounds

@@ -25,8 +25,8 @@ pub struct Simulated {
     pub bytes: Vec<u8>,
 }
 
-/// The host takes so many bytes, or all that are stored where these are fewer. Bytes that it takes
-/// go through the buffer, which is small, and are not looked at.
+/// The host takes so many bytes, or all that are stored where these are fewer. They pass through
+/// the buffer and are thrown away.
 fn read(recorder: &mut Recorder<'_, PlainRing>, most: u32, buf: &mut [u8; 1024])
     ensures { recorder.new ≡ record recorder.old {
       freed = min (recorder.old.freed + most) (length recorder.old.sent);
@@ -106,7 +106,7 @@ fn play_schedule(load: &Workload, recorder: &mut Recorder<'_, PlainRing>, buf: &
     }
 }
 
-/// How many rounds are left: as many as the writer has steps that has most of them.
+/// How many rounds are left: the most steps that any writer has left.
 fn rounds_left(load: &Workload, recorder: &Recorder<'_, PlainRing>) -> u32
     requires load { recorder.now.load ≡ load.now }
     ensures enough { (writer : ℕ) → writer < length load.now.scripts →

@@ -1,4 +1,4 @@
-ghost use Rattle.std.specs.Prelude.{◌≡◌, IfOk};
+ghost use Rattle.std.specs.Prelude.{IfOk};
 ghost use Rattle.sv_recorder.specs.Plain.{IsPlain};
 
 use super::*;
@@ -11,19 +11,14 @@ use sv_workload::{Workload, parse};
 const MARKS: &[u8] = b"ring 64\nwriter\n0 start\n1 mark 5\n1 mark 5\n1 mark 5\n1 mark 5\n1 mark 5\n\
 1 mark 5\n1 mark 5\n1 mark 5\n1 mark 5\n1 mark 5\n1 mark 5\n1 mark 5\n1 mark 5\n";
 
-/// The workload that the text says, which is plain and has a ring of 64 bytes.
+/// The workload that the text says, which is plain.
 fn plain(alloc: Global, text: &[u8]) -> Result<Workload, Fail>
     ensures plain { IfOk result (λ load. IsPlain load) }
-    ensures ring { IfOk result (λ load. load.ring ≡ 64) }
 {
     if text.len() >= 1 << 32 {
         return Err(Fail::from("a text of 2^32 bytes"));
     }
-    let load = parse(alloc, text)?;
-    if load.writers() != 1 || !load.tasks().is_empty() || load.ring() != 64 {
-        return Err(Fail::from("another workload"));
-    }
-    Ok(load)
+    Ok(parse(alloc, text)?)
 }
 
 /// Fourteen turns of the one writer, of whose nineteen frees all are 0 but the one before the last.
@@ -151,5 +146,28 @@ fn restart_after_a_lost_packet(rt: HostRuntime) -> Result<(), Fail> {
 /// A writer without a step.
 #[test]
 fn nothing_to_do(rt: HostRuntime) -> Result<(), Fail> {
-    simulates(&rt, rt.alloc(), &[b"ring 64\nwriter\n"], 0, 0, &[])
+    simulates(&rt, rt.alloc(), &[b"ring 64\nwriter\n"], 0, 0, &[])?;
+    simulates(&rt, rt.alloc(), &[b"ring 64\n"], 0, 0, &[])
+}
+
+/// The marks are told from one another by their numbers, and their deltas are their own ticks.
+#[test]
+fn two_writers(rt: HostRuntime) -> Result<(), Fail> {
+    let alloc = rt.alloc();
+    let scripts: &[u8] =
+        b"ring 64\nwriter\n0 start\n1 mark 5\n1 mark 6\nwriter\n2 mark 7\n3 mark 8\n";
+
+    // By turns, the first writer first.
+    let ends = &[0x0f, 0x07, 2, 0x0f, 0x05, 1, 0x0f, 0x08, 3, 0x0f, 0x06, 1];
+    simulates(&rt, alloc, &[scripts], 10, 46, ends)?;
+
+    // The first mark of the second writer comes before the start, and is ignored.
+    let schedule: &[u8] = b"schedule\nstep 1\nstep 0\nstep 1\nread 10\nstep 0\n";
+    let ends = &[0x0f, 0x08, 3, 0x0f, 0x05, 1, 0x0f, 0x06, 1];
+    simulates(&rt, alloc, &[scripts, schedule], 10, 43, ends)?;
+
+    // The first writer is through before its line ends.
+    let schedule: &[u8] = b"schedule\nstep 0 9\nstep 1\n";
+    let ends = &[0x0f, 0x05, 1, 0x0f, 0x06, 1, 0x0f, 0x07, 2, 0x0f, 0x08, 3];
+    simulates(&rt, alloc, &[scripts, schedule], 10, 46, ends)
 }

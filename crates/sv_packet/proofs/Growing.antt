@@ -1,5 +1,5 @@
 -- Words on lists, when one more element comes at the end.
-use Rattle.std.proofs.Common.{◌≡◌, ℕ, ◌+◌, ◌-◌, List, [], ◌∷◌, ◌++◌, length}
+use Rattle.std.proofs.Common.{◌≡◌, ℕ, ◌+◌, ◌-◌, ◌≤◌, List, [], ◌∷◌, ◌++◌, length}
 use Rattle.std.proofs.Common.{drop, map, refl, sym, ap, subst, ◌∙◌, arith}
 use Rattle.std.specs.Prelude.{Bool, true, false, not, cond, filter, Option, Some, None}
 use Rattle.std.specs.List.{after_last, suffix_len, last_or, list_any}
@@ -14,7 +14,8 @@ use Rattle.sv_packet.specs.declared.event.TimedEvent.{TimedEvent}
 use Rattle.sv_packet.specs.Time.{with_before, time_of, timed}
 use Rattle.sv_packet.specs.Events.{last_time}
 use Rattle.sv_packet.specs.Lists.{fronts, neighbours, last_of, first_seen, insert_once, in_order}
-use Rattle.sv_packet.proofs.Times.{with_before_from-append, time_of-push, timed-push}
+use Rattle.sv_packet.proofs.Times.{with_before_from-append, time_of-push, timed-push, event_at}
+use Rattle.sv_packet.proofs.Times.{timed_after}
 
 -- what follows the last element that passes
 suffix_more : {A : Type 0} (p : A → Bool) (xs : List A) (x : A) → suffix_len p (xs ++ x ∷ [])
@@ -129,3 +130,35 @@ last_time-by packets (ended front last is) =
 -- the last event has the time of the packets
 pub last_time-timed : (packets : List Packet) → last_time (timed packets) ≡ time_of packets
 last_time-timed packets = last_time-by packets (ending_of packets)
+
+-- the time of the last of some events, or the given one
+abbrev last_from : ℕ → List TimedEvent → ℕ
+last_from time [] = time
+last_from time (event ∷ events) = last_from event.time events
+
+last_from-is : (before : Option TimedEvent) (events : List TimedEvent) →
+    option_map_or (λ (e : TimedEvent). e.time) (last_or before events) 0
+    ≡ last_from (option_map_or (λ (e : TimedEvent). e.time) before 0) events
+last_from-is before [] = refl
+last_from-is before (event ∷ events) = last_from-is (Some event) events
+
+rises_after : (before packets : List Packet) (earlier later : List TimedEvent)
+    (event : TimedEvent) → timed_after before packets ≡ earlier ++ event ∷ later →
+    last_from (time_of before) earlier ≤ event.time
+rises_after before [] [] later event is = absurd cc
+rises_after before [] (e ∷ earlier) later event is = absurd cc
+rises_after before (p ∷ packets) [] later event is =
+    let head : event_at (before, p) ≡ event = cc in
+    omega (arith, time_of-push before p, ap (λ (e : TimedEvent). e.time) head)
+rises_after before (p ∷ packets) (e ∷ earlier) later event is =
+    let head : event_at (before, p) ≡ e = cc in
+    let tail : timed_after (before ++ p ∷ []) packets ≡ earlier ++ event ∷ later = cc in
+    subst (λ (n : ℕ). last_from n earlier ≤ event.time) (ap (λ (e : TimedEvent). e.time) head)
+    (rises_after (before ++ p ∷ []) packets earlier later event tail)
+
+-- no packet's event is before those of the packets before it
+pub times_rise : (packets : List Packet) (earlier later : List TimedEvent) (event : TimedEvent) →
+    timed packets ≡ earlier ++ event ∷ later → last_time earlier ≤ event.time
+times_rise packets earlier later event is =
+    subst (λ (n : ℕ). n ≤ event.time) (sym (last_from-is None earlier))
+    (rises_after [] packets earlier later event is)

@@ -34,7 +34,7 @@ row_last start end [] span row = (sym row.0, omega (arith, row.0, row.1), row.2)
 row_last start end (s ∷ spans) span row = let found = row_last s.end end spans span row.2 in
     ((row.0, row.1, found.0), found.1, found.2)
 
-replicate-add : {A : Type 0} (n m : ℕ) (x : A) → replicate (n + m) x ≡ replicate n x ++ replicate m
+pub replicate-add : {A : Type 0} (n m : ℕ) (x : A) → replicate (n + m) x ≡ replicate n x ++ replicate m
     x
 replicate-add zero m x = let e : zero + m ≡ m = omega arith in ap (λ (k : ℕ). replicate k x) e
 replicate-add (suc n) m x = let e : suc n + m ≡ suc (n + m) = omega arith in

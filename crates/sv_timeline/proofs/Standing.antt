@@ -99,7 +99,7 @@ none_in_row (s ∷ given) end none row = let rest = row_le s.end end given row.2
     absurd (omega (arith, row.1, rest))
 
 -- before any tick no run was given
-none_given : (events : List TimedEvent) (given : List Span) → last_time events ≡ 0
+pub none_given : (events : List TimedEvent) (given : List Span) → last_time events ≡ 0
     → IsTimeline events given → given ≡ []
 none_given events given none t = none_in_row given (last_time events) none t.row
 
@@ -110,13 +110,13 @@ no_ticks events none = ap (λ (n : ℕ). map (context_at events) (range_with_len
 abbrev pub tail_from : ℕ → ℕ → Context → List Span
 tail_from start last run = if last == 0 then [] else span_of start last run ∷ []
 
-tail_none : (start last : ℕ) (run : Context) → last ≡ 0 → tail_from start last run ≡ []
+pub tail_none : (start last : ℕ) (run : Context) → last ≡ 0 → tail_from start last run ≡ []
 tail_none start last run none = rw none refl
 
 is_not_zero : (n : ℕ) → 0 < n → (n == 0) ≡ false
 is_not_zero n some = grind (arith, nat_tests)
 
-tail_some : (start last : ℕ) (run : Context) → 0 < last → tail_from start last run ≡ span_of start
+pub tail_some : (start last : ℕ) (run : Context) → 0 < last → tail_from start last run ≡ span_of start
     last run ∷ []
 tail_some start last run some = rw (is_not_zero last some) refl
 

@@ -36,7 +36,7 @@ pub events_more : (events : List TimedEvent) (event : TimedEvent) → events_of 
     ≡ events_of events ++ event.event ∷ []
 events_more events event = map-append (λ e. e.event) events (event ∷ [])
 
-rising_more : (events : List TimedEvent) (event : TimedEvent) → AreUpTo (last_time events) events
+pub rising_more : (events : List TimedEvent) (event : TimedEvent) → AreUpTo (last_time events) events
     → last_time events ≤ event.time → AreUpTo (last_time (events ++ event ∷ [])) (events ++ event ∷
     [])
 rising_more events event up le =

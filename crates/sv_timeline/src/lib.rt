@@ -10,6 +10,6 @@ mod span;
 mod timeline;
 mod totals;
 
-pub use laws::{same_for_events, ticks_stay, timeline_once};
+pub use laws::{runs_grow, same_for_events, ticks_stay, timeline_is, timeline_once};
 pub use span::Span;
 pub use timeline::Timeline;

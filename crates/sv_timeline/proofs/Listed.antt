@@ -251,13 +251,12 @@ ended_are events given h =
     ended_is events given h.start (last_time events) h.run refl h.timeline
 
 -- the runs that have ended with some of a recording's events are the first of those with more
-pub runs_grow : (packets : List Packet) (events more : List TimedEvent)
-    → timed packets ≡ events ++ more
+pub runs_grow : (packets : List Packet) (events more rest : List TimedEvent)
+    → timed packets ≡ events ++ (more ++ rest)
     → (added : List Span) × (ended_runs (events ++ more) ≡ ended_runs events ++ added)
-runs_grow packets events more is =
-    let front = more_ended packets [] events more [] is none_ended in
-    let after = more_ended packets events more [] front.0
-    (is ∙ ap (λ (es : List TimedEvent). events ++ es) (sym (append-nil more))) front.1 in (
+runs_grow packets events more rest is =
+    let front = more_ended packets [] events (more ++ rest) [] is none_ended in
+    let after = more_ended packets events more rest front.0 is front.1 in (
       after.0,
       ended_are (events ++ more) (front.0 ++ after.0) after.1
           ∙ ap (λ (runs : List Span). runs ++ after.0) (sym (ended_are events front.0 front.1)),

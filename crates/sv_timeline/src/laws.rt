@@ -23,8 +23,8 @@ pub fn timeline_is()
 
 /// The law of ended runs: those of a recording's first events are the first of those of more.
 pub fn runs_grow()
-    ensures { (packets : List Packet) → (events more : List TimedEvent) →
-        timed packets ≡ events ++ more →
+    ensures { (packets : List Packet) → (events more rest : List TimedEvent) →
+        timed packets ≡ events ++ (more ++ rest) →
         (added : List Span) × (ended_runs (events ++ more) ≡ ended_runs events ++ added) }
 {}
 

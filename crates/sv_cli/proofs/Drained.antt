@@ -75,7 +75,7 @@ module _ {V : Type 0} (text : Text) (shown : V → List TimedEvent → Type 0) w
   }
 
   -- the next event finds fewer than 2^33 before it, and none after its time
-  pub room_for_next : (old mid new : Decoding) (before now : V) (lines_before lines : List ℕ)
+  pub room_for_next : (old mid : Decoding) (before now : V) (lines_before lines : List ℕ)
       (events : List TimedEvent) (time : ℕ)
       → HasGiven text shown old mid before now lines_before lines events
       → (input : List ℕ) (given : List TimedEvent) → StandsFor old input given
@@ -85,13 +85,13 @@ module _ {V : Type 0} (text : Text) (shown : V → List TimedEvent → Type 0) w
       → 0 < length mid.held
       → (earlier : List TimedEvent) × shown now earlier × (length earlier < 2 ^ 33)
       × (last_time earlier ≤ time)
-  room_for_next old mid new before now lines_before lines events time g input given stands s few
+  room_for_next old mid before now lines_before lines events time g input given stands s few
       order some = (
-    given ++ events,
-    g.viewed given s,
-    omega (arith, g.held, some, few, length-append given events),
-    order input (given ++ events) (g.stands input given stands),
-  )
+        given ++ events,
+        g.viewed given s,
+        omega (arith, g.held, some, few, length-append given events),
+        order input (given ++ events) (g.stands input given stands),
+      )
 
 -- no event is left
 pub drained-none : (old mid new : Decoding) (events : List TimedEvent)

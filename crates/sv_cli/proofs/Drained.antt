@@ -9,6 +9,7 @@ use Rattle.sv_prim.specs.Text.{AreBytes}
 use Rattle.sv_packet.specs.declared.event.TimedEvent.{TimedEvent}
 use Rattle.sv_packet.specs.declared.event.Packet.{Packet}
 use Rattle.sv_packet.specs.Time.{timed}
+use Rattle.sv_packet.specs.Events.{last_time}
 use Rattle.sv_prim.specs.declared.got.Reason.{Reason}
 use Rattle.sv_stream.specs.declared.end.End.{End}
 use Rattle.sv_stream.specs.declared.end.End.TheVariants.{Damaged as DamagedEnd}
@@ -73,19 +74,24 @@ module _ {V : Type 0} (text : Text) (shown : V → List TimedEvent → Type 0) w
     pushed_same = same ∙ g.pushed_same;
   }
 
-  -- the next event finds fewer than 2^33 before it
-  pub room_for_next : (old mid new : Decoding) (before now : V) (lines_before lines : List ℕ)
-      (events : List TimedEvent)
+  -- the next event finds fewer than 2^33 before it, and none after its time
+  pub room_for_next : (old mid : Decoding) (before now : V) (lines_before lines : List ℕ)
+      (events : List TimedEvent) (time : ℕ)
       → HasGiven text shown old mid before now lines_before lines events
-      → (given : List TimedEvent) → shown before given → length given + length old.held ≤ 2 ^ 33 →
-      length new.held < length mid.held
+      → (input : List ℕ) (given : List TimedEvent) → StandsFor old input given
+      → shown before given → length given + length old.held ≤ 2 ^ 33
+      → ((input : List ℕ) (given : List TimedEvent) → StandsFor mid input given
+      → last_time given ≤ time)
+      → 0 < length mid.held
       → (earlier : List TimedEvent) × shown now earlier × (length earlier < 2 ^ 33)
-  room_for_next old mid new before now lines_before lines events g given s few fewer = (
-    given ++ events,
-    g.viewed given s,
-    omega
-        (arith, g.held, fewer, few, length-append given events),
-  )
+      × (last_time earlier ≤ time)
+  room_for_next old mid before now lines_before lines events time g input given stands s few
+      order some = (
+        given ++ events,
+        g.viewed given s,
+        omega (arith, g.held, some, few, length-append given events),
+        order input (given ++ events) (g.stands input given stands),
+      )
 
 -- no event is left
 pub drained-none : (old mid new : Decoding) (events : List TimedEvent)

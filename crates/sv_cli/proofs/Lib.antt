@@ -7,3 +7,4 @@ pub mod Pieces
 pub mod Ended
 pub mod Files
 pub mod SameWords
+pub mod Timelines

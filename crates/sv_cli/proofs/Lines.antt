@@ -4,7 +4,6 @@ use Rattle.std.proofs.Common.{append_assoc, append-nil}
 use Rattle.sv_base.specs.Streams.{AppendsPart}
 use Rattle.sv_packet.specs.declared.event.TimedEvent.{TimedEvent}
 use Rattle.sv_cli.specs.Text.{Text, lines_after, lines_of}
-use Rattle.sv_cli.specs.commands.Check.{last_time}
 use Rattle.sv_cli.proofs.Parts.{part_more}
 
 pub lines_after-append : (text : Text) (earlier events more : List TimedEvent)
@@ -37,8 +36,3 @@ part_of_lines text old now given more events is part =
     subst (AppendsPart old now)
     (sym (ap (lines_of text) is ∙ lines_after-append text [] given more))
     (part_more old now (lines_of text given) (lines_after text given more) part)
-
-pub last_time-push : (time : ℕ) (events : List TimedEvent) (event : TimedEvent)
-    → last_time time (events ++ event ∷ []) ≡ event.time
-last_time-push time [] event = refl
-last_time-push time (e ∷ events) event = last_time-push e.time events event

@@ -6,7 +6,7 @@ use Rattle.std.specs.Prelude.{position, codes, IfSome}
 use Rattle.std.specs.Str.{bytes_eq}
 use Rattle.sv_journal.specs.declared.journal.Item.{Item}
 use Rattle.sv_cli.specs.declared.command.Command.{Command}
-use Rattle.sv_cli.specs.declared.command.Command.TheVariants.{Events, Check, Record}
+use Rattle.sv_cli.specs.declared.command.Command.TheVariants.{Events, Check, Timeline, Record}
 use Rattle.sv_cli.specs.declared.status.Status.{Status}
 use Rattle.sv_cli.specs.Answer.{IsShown}
 use Rattle.sv_cli.specs.AnswersTo.{AnswersTo}
@@ -15,22 +15,26 @@ use Rattle.sv_cli.specs.Devices.{HasTaken, OfFile}
 use Rattle.sv_cli.specs.Recorded.{IsRecorded, is_unwritten as is_recording_unwritten}
 use Rattle.sv_cli.specs.commands.Events.{events_text}
 use Rattle.sv_cli.specs.commands.Check.{check_text}
+use Rattle.sv_cli.specs.commands.Timeline.{timeline_text}
 
 -- the place of a command in the table of them
 abbrev place : Command → Option ℕ
 place (Events file) = Some 0
 place (Check file) = Some 1
-place (Record file) = Some 2
+place (Timeline file) = Some 2
+place (Record file) = Some 3
 
 -- the same, by the words
 abbrev place_by : List (List ℕ) → Option ℕ
 place_by [] = None
 place_by (word ∷ rest) =
-    position (λ w. bytes_eq w word) (codes "events" ∷ codes "check" ∷ codes "record" ∷ [])
+    position (λ w. bytes_eq w word)
+    (codes "events" ∷ codes "check" ∷ codes "timeline" ∷ codes "record" ∷ [])
 
 place_is : (c : Command) → place_by (words_of c) ≡ place c
 place_is (Events file) = refl
 place_is (Check file) = refl
+place_is (Timeline file) = refl
 place_is (Record file) = refl
 
 same_place : (a b : Command) → words_of a ≡ words_of b → place a ≡ place b
@@ -43,7 +47,9 @@ Means (Some zero) file taken old new items status =
     IsShown events_text taken (taken ≡ file) old new status × (items ≡ [])
 Means (Some (suc zero)) file taken old new items status =
     IsShown check_text taken (taken ≡ file) old new status × (items ≡ [])
-Means (Some (suc (suc n))) file taken old new items status =
+Means (Some (suc (suc zero))) file taken old new items status =
+    IsShown timeline_text taken (taken ≡ file) old new status × (items ≡ [])
+Means (Some (suc (suc (suc n)))) file taken old new items status =
     IsRecorded file taken old new items status
 Means None file taken old new items status = ⊥
 
@@ -53,12 +59,14 @@ module _ (file taken : List ℕ) (old new : Option (List ℕ)) (items : List Ite
       old new items status
   means (Events name) a = a
   means (Check name) a = a
+  means (Timeline name) a = a
   means (Record name) a = a
 
   meant : (c : Command) → Means (place c) file taken old new items status → AnswersTo c file taken
       old new items status
   meant (Events name) a = a
   meant (Check name) a = a
+  meant (Timeline name) a = a
   meant (Record name) a = a
 
   pub same_answer : (a b : Command) → words_of a ≡ words_of b → AnswersTo a file taken old new items
@@ -76,19 +84,21 @@ second (word ∷ file ∷ rest) = file
 file_is : (c : Command) → second (words_of c) ≡ file_of c
 file_is (Events file) = refl
 file_is (Check file) = refl
+file_is (Timeline file) = refl
 file_is (Record file) = refl
 
 pub same_file : (a b : Command) → words_of a ≡ words_of b → file_of a ≡ file_of b
 same_file a b e = sym (file_is a) ∙ ap second e ∙ file_is b
 
 abbrev unwritten_at : Option ℕ → Status → Bool
-unwritten_at (Some (suc (suc n))) status = is_recording_unwritten status
+unwritten_at (Some (suc (suc (suc n)))) status = is_recording_unwritten status
 unwritten_at other status = false
 
 unwritten_is : (c : Command) (status : Status)
     → unwritten_at (place c) status ≡ is_unwritten c status
 unwritten_is (Events name) status = refl
 unwritten_is (Check name) status = refl
+unwritten_is (Timeline name) status = refl
 unwritten_is (Record name) status = refl
 
 pub same_unwritten : (a b : Command) (status : Status) → words_of a ≡ words_of b

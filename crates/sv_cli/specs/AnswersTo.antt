@@ -2,12 +2,13 @@
 use Rattle.std.specs.Prelude.{◌≡◌, ℕ, List, [], Option}
 use Rattle.sv_journal.specs.declared.journal.Item.{Item}
 use Rattle.sv_cli.specs.declared.command.Command.{Command}
-use Rattle.sv_cli.specs.declared.command.Command.TheVariants.{Events, Check, Record}
+use Rattle.sv_cli.specs.declared.command.Command.TheVariants.{Events, Check, Timeline, Record}
 use Rattle.sv_cli.specs.declared.status.Status.{Status}
 use Rattle.sv_cli.specs.Answer.{IsShown}
 use Rattle.sv_cli.specs.Recorded.{IsRecorded}
 use Rattle.sv_cli.specs.commands.Events.{events_text}
 use Rattle.sv_cli.specs.commands.Check.{check_text}
+use Rattle.sv_cli.specs.commands.Timeline.{timeline_text}
 
 -- the answer over a file of which these bytes were taken: what is written, the journal, and the
 -- status
@@ -17,4 +18,6 @@ AnswersTo (Events name) file taken old new items status =
     IsShown events_text taken (taken ≡ file) old new status × (items ≡ [])
 AnswersTo (Check name) file taken old new items status =
     IsShown check_text taken (taken ≡ file) old new status × (items ≡ [])
+AnswersTo (Timeline name) file taken old new items status =
+    IsShown timeline_text taken (taken ≡ file) old new status × (items ≡ [])
 AnswersTo (Record name) file taken old new items status = IsRecorded file taken old new items status

@@ -2,7 +2,7 @@
 use Rattle.std.specs.Prelude.{◌≡◌, ℕ, Bool, false, List, [], ◌∷◌, map, codes}
 use Rattle.std.specs.Borrow.{Bor}
 use Rattle.sv_cli.specs.declared.command.Command.{Command}
-use Rattle.sv_cli.specs.declared.command.Command.TheVariants.{Events, Check, Record}
+use Rattle.sv_cli.specs.declared.command.Command.TheVariants.{Events, Check, Timeline, Record}
 use Rattle.sv_cli.specs.declared.status.Status.{Status}
 use Rattle.sv_cli.specs.Recorded.{is_unwritten as is_recording_unwritten}
 
@@ -10,6 +10,7 @@ use Rattle.sv_cli.specs.Recorded.{is_unwritten as is_recording_unwritten}
 abbrev pub words_of : Command → List (List ℕ)
 words_of (Events file) = codes "events" ∷ file.now ∷ []
 words_of (Check file) = codes "check" ∷ file.now ∷ []
+words_of (Timeline file) = codes "timeline" ∷ file.now ∷ []
 words_of (Record file) = codes "record" ∷ file.now ∷ []
 
 -- the words are these of a command
@@ -20,6 +21,7 @@ IsCommand words command = map (λ word. word.now) words ≡ words_of command
 abbrev pub file_of : Command → List ℕ
 file_of (Events file) = file.now
 file_of (Check file) = file.now
+file_of (Timeline file) = file.now
 file_of (Record file) = file.now
 
 -- a command that ends so has not written at all

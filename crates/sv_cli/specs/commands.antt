@@ -1,3 +1,4 @@
 -- What each command writes of a recording.
 pub mod Events
 pub mod Check
+pub mod Timeline

@@ -10,6 +10,9 @@ pub enum Command<'a> {
     /// `check F`: how many packets the recording F has, the time of the last one in ticks, and the
     /// end line.
     Check(&'a str),
+    /// `timeline F`: a line for each run of ticks of the recording F with equal contexts, and the end
+    /// line.
+    Timeline(&'a str),
     /// `record W`: the recording that the workload W gives.
     Record(&'a str),
 }
@@ -18,7 +21,7 @@ pub enum Command<'a> {
 pub fn usage() -> &'static str
     ensures { result.now ≡ usage_line }
 {
-    "usage: sysview events F | check F | record W\n"
+    "usage: sysview events F | check F | timeline F | record W\n"
 }
 
 impl<'a> Command<'a> {
@@ -34,6 +37,7 @@ impl<'a> Command<'a> {
         match words {
             ["events", file] => Some(Command::Events(file)),
             ["check", file] => Some(Command::Check(file)),
+            ["timeline", file] => Some(Command::Timeline(file)),
             ["record", file] => Some(Command::Record(file)),
             _ => None,
         }

@@ -2,3 +2,4 @@
 pub mod check;
 pub mod events;
 pub mod record;
+pub mod timeline;

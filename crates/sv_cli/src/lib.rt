@@ -18,6 +18,7 @@ mod top;
 mod view;
 
 pub use command::Command;
+pub use commands::timeline::timeline_lines;
 pub use status::{Status, say};
 pub use top::offline;
 

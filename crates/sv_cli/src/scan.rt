@@ -5,7 +5,7 @@ ghost use Rattle.std.specs.Prelude.{Option, true, false, IsTrue, Err, Ok, IsErr,
 ghost use Rattle.std.specs.Prelude.{take, IfOk, IfErr, OnOk};
 ghost use Rattle.sv_prim.specs.Text.{AreBytes};
 ghost use Rattle.sv_packet.specs.declared.event.TimedEvent.{TimedEvent as Timed};
-ghost use Rattle.sv_stream.specs.Decoding.{IsSettled, pushed};
+ghost use Rattle.sv_stream.specs.Decoding.{StandsFor, IsSettled, pushed};
 ghost use Rattle.sv_base.specs.Causes.{Blames, BlamesLast, one_more};
 ghost use Rattle.sv_cli.specs.Answer.{piece_size, IsShown};
 ghost use Rattle.sv_cli.specs.Devices.{IsReadFrom, OfFile};
@@ -55,8 +55,8 @@ fn drain<V: View>(
     view: &mut V,
     lines: &mut Vec<u8>,
 ) -> Result<bool, NoMemory>
-    requires { (given : List Timed) × V.shown view.old given
-        × (length given + length decoder.old.held ≤ 2 ^ 33) }
+    requires { (input : List ℕ) × (given : List Timed) × StandsFor decoder.old input given
+        × V.shown view.old given × (length given + length decoder.old.held ≤ 2 ^ 33) }
     ensures { IfOk result (λ damaged. (events : List Timed)
         × HasGiven V.text V.shown decoder.old decoder.new view.old view.new
         lines.old.items lines.new.items events

@@ -1,6 +1,7 @@
 //! What a command makes of a recording.
-ghost use Rattle.std.specs.Prelude.{◌≡◌, ◌∷◌, ◌++◌, ◌<◌, ◌^◌, [], List, OnOk, length};
+ghost use Rattle.std.specs.Prelude.{◌≡◌, ◌∷◌, ◌++◌, ◌<◌, ◌≤◌, ◌^◌, [], List, OnOk, length};
 ghost use Rattle.sv_packet.specs.declared.event.TimedEvent.{TimedEvent as Timed};
+ghost use Rattle.sv_packet.specs.Events.{last_time};
 ghost use Rattle.sv_packet.specs.EventRef.{seen_at};
 ghost use Rattle.sv_cli.specs.Text.{Text};
 
@@ -16,15 +17,16 @@ pub trait View {
     /// It was shown these events, one after another.
     ghost shown: { Self → List Timed → Type 0 };
 
-    /// Takes the next event, at its time in ticks, and appends what is written of it. NoMemory
-    /// leaves the lines open.
+    /// Takes the next event, at its time in ticks, which is not before the last one's, and appends
+    /// what is written of it. NoMemory leaves the lines open.
     fn event(
         &mut self,
         time: u64,
         event: &EventRef<'_>,
         lines: &mut Vec<u8>,
     ) -> Result<(), NoMemory>
-        requires { (earlier : List Timed) × shown self.old earlier × (length earlier < 2 ^ 33) }
+        requires { (earlier : List Timed) × shown self.old earlier × (length earlier < 2 ^ 33)
+            × (last_time earlier ≤ time) }
         ensures shown { (earlier : List Timed) → shown self.old earlier →
             OnOk result (shown self.new (earlier ++ seen_at time event.now ∷ [])) }
         ensures line { (earlier : List Timed) → shown self.old earlier → OnOk result

@@ -8,6 +8,7 @@ pub mod Taken
 pub mod Adding
 pub mod Parts
 pub mod Times
+pub mod Growing
 pub mod Flats
 pub mod Reading
 pub mod Counts

@@ -7,7 +7,7 @@ use Rattle.sv_packet.specs.declared.event.Packet.{Packet}
 use Rattle.sv_packet.specs.declared.event.TimedEvent.{TimedEvent}
 use Rattle.sv_packet.specs.Time.{with_before_from, with_before, time_of, timed}
 
-with_before_from-append : {A : Type 0} (before xs ys : List A) →
+pub with_before_from-append : {A : Type 0} (before xs ys : List A) →
     with_before_from before (xs ++ ys)
     ≡ with_before_from before xs ++ with_before_from (before ++ xs) ys
 with_before_from-append before [] ys = rw append-nil refl

@@ -12,4 +12,6 @@ pub mod Forms
 pub mod Read
 pub mod Reader
 pub mod Spelling
+pub mod Lists
+pub mod Events
 pub mod Flat

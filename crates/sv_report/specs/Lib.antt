@@ -3,3 +3,4 @@ pub mod Ends
 pub mod Words
 pub mod Told
 pub mod Growth
+pub mod Spans

@@ -6,12 +6,12 @@ ghost use Rattle.sv_report.specs.Words.{spaced, spaced_number};
 use itoa::write_digits;
 
 /// How many bytes there are for a time, a name, four numbers and the line's end: 20, 17, 44 and 1,
-/// and some to spare.
+/// and some to spare. A run's line has fewer.
 pub const LINE: usize = 96;
 
 /// Puts a number and a space before it so that they end at `end`, and tells where they begin.
 #[inline(always)]
-fn number_before(number: u32, line: &mut [u8; LINE], end: usize) -> usize
+pub fn number_before(number: u32, line: &mut [u8; LINE], end: usize) -> usize
     requires { (11 ≤ end) × (end ≤ 96) }
     ensures start { (result ≤ end) × (end ≤ result + 11) }
     ensures written { drop result line.new ≡ spaced_number number ++ drop end line.old }
@@ -41,7 +41,7 @@ fn numbers_before(numbers: &[u32], line: &mut [u8; LINE], end: usize) -> usize
 /// Puts a name of so many bytes and a space before it so that they end at `end`, and tells where
 /// they begin.
 #[inline(always)]
-fn name_before(name: &[u8; 16], size: usize, line: &mut [u8; LINE], end: usize) -> usize
+pub fn name_before(name: &[u8; 16], size: usize, line: &mut [u8; LINE], end: usize) -> usize
     requires { (size ≤ 16) × (17 ≤ end) × (end ≤ 96) }
     ensures start { (result ≤ end) × (end ≤ result + 17) }
     ensures written { drop result line.new

@@ -1,17 +1,20 @@
-//! The lines that the commands print: of an event at its time, and of the end of a recording.
+//! The lines that the commands print: of an event at its time, of a run of ticks, and of the end of
+//! a recording.
 //!
-//! The contract above this crate: [`event_line`] and [`end_line`] add exactly the line of their
-//! definition to a buffer, or leave the buffer as it was where memory is wanting.
+//! The contract above this crate: [`event_line`], [`span_line`] and [`end_line`] add exactly the
+//! line of their definition to a buffer, or leave the buffer as it was where memory is wanting.
 #![tactic(auto)]
 
 mod ends;
 mod events;
 mod head;
+mod spans;
 mod table;
 mod texts;
 
 pub use ends::{end_line, reason_number};
 pub use events::event_line;
+pub use spans::span_line;
 
 #[cfg(test)]
 mod tests;

@@ -1,13 +1,19 @@
 -- A decoder at whose front an event stands, and after it.
-use Rattle.std.proofs.Common.{◌≡◌, ℕ, ◌+◌, ◌<◌, arith, length, List, [], ◌∷◌, ◌++◌, drop, refl, sym}
+use Rattle.std.proofs.Common.{◌≡◌, ℕ, ◌+◌, ◌<◌, ◌≤◌, arith, length, List, [], ◌∷◌, ◌++◌, drop, refl}
+use Rattle.std.proofs.Common.{sym}
 use Rattle.std.proofs.Common.{ap, subst, ◌∙◌}
+use Rattle.std.proofs.lemmas.List.{length-drop}
 use Rattle.sv_prim.specs.Code.{Begins, IsCutShort, BreaksAt}
 use Rattle.sv_prim.proofs.Shared.{begins_not_breaks, begins_not_cut}
 use Rattle.sv_packet.specs.declared.event.Event.{Event}
 use Rattle.sv_packet.specs.declared.event.Packet.{Packet}
 use Rattle.sv_packet.specs.declared.event.TimedEvent.{TimedEvent}
 use Rattle.sv_packet.specs.Packet.{IsPacket}
-use Rattle.sv_stream.specs.Decoding.{Decoding, StandsFor, IsDecoder}
+use Rattle.sv_packet.specs.Events.{last_time}
+use Rattle.sv_packet.proofs.Shared.{last_time-timed}
+use Rattle.sv_stream.specs.declared.stage.Stage.{Stage}
+use Rattle.sv_stream.specs.declared.stage.Stage.TheVariants.{Searching, Zeros, Body}
+use Rattle.sv_stream.specs.Decoding.{Decoding, StandsFor, IsDecoder, IsSoFar}
 use Rattle.sv_stream.specs.Front.{IsFront, HasNoFront}
 use Rattle.sv_stream.proofs.Packets.{readable}
 use Rattle.sv_stream.proofs.Sizes.{two_bytes}
@@ -72,3 +78,31 @@ pub front_held : (decoder : Decoding) (used : ℕ) (event : TimedEvent) → IsFr
 front_held decoder used event front =
     omega
     (arith, two_bytes decoder.held front.packet used front.begins, front.begins.within)
+
+-- the time of the last event that was given
+time_given : (stage : Stage) (decoder : Decoding) (input : List ℕ) (given : List TimedEvent)
+    → IsSoFar stage decoder input given → last_time given ≡ decoder.time
+time_given (Searching zeros) decoder input given so_far =
+    ap last_time so_far.1.none ∙ sym so_far.1.clock
+time_given Zeros decoder input given so_far = ap last_time so_far.1.none ∙ sym so_far.1.clock
+time_given Body decoder input given so_far =
+    ap last_time so_far.given_is ∙ last_time-timed so_far.packets ∙ sym so_far.clock
+
+-- the event at the front is not before those that were given
+pub front_later : (decoder : Decoding) (used : ℕ) (event : TimedEvent) → IsFront decoder used event
+    → (input : List ℕ) (given : List TimedEvent) → StandsFor decoder input given
+    → last_time given ≤ event.time
+front_later decoder used event front input given s =
+    omega (arith, time_given decoder.stage decoder input given s.so_far, front.clock)
+
+-- its packet has two bytes at least
+pub front_two : (old : Decoding) (used : ℕ) (event : TimedEvent) (held : List ℕ)
+    → IsFront old used event → held ≡ drop used old.held → length held + 2 ≤ length old.held
+front_two old used event held front is =
+    omega (
+      arith,
+      two_bytes old.held front.packet used front.begins,
+      front.begins.within,
+      ap length is,
+      length-drop used old.held,
+    )

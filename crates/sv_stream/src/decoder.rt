@@ -1,10 +1,11 @@
 //! A recording's events, whatever the pieces in which its bytes come.
 ghost use Rattle.std.specs.Prelude.{◌≡◌, ℕ, ◌+◌, ◌^◌, ◌<◌, ◌≤◌, ◌↔◌, ◌++◌, ◌∷◌, List, [], Ok, None};
-ghost use Rattle.std.specs.Prelude.{IfOk, OnOk, OnErr, OnSome, IsOk, IsErrOf, MatchOption, length};
+ghost use Rattle.std.specs.Prelude.{IfOk, IfSome, OnOk, OnErr, OnSome, IsOk, IsErrOf, MatchOption, length};
 ghost use Rattle.sv_packet.specs.declared.event.Event.{Event};
 ghost use Rattle.sv_packet.specs.declared.event.Packet.{Packet};
 ghost use Rattle.sv_packet.specs.declared.event.TimedEvent.{TimedEvent as Timed};
 ghost use Rattle.sv_packet.specs.Time.{timed};
+ghost use Rattle.sv_packet.specs.Events.{last_time};
 ghost use Rattle.sv_packet.specs.EventRef.{seen_at};
 ghost use Rattle.sv_stream.specs.declared.end.End.{End as HowItEnds};
 ghost use Rattle.sv_stream.specs.Reads.{Reads};
@@ -102,14 +103,17 @@ impl Decoder {
         Ok(())
     }
 
-    /// The next event as it stands in the bytes held, or None where no event is whole. Takes no
-    /// memory, and leaves the decoder as it is: [`pass`] goes on behind the event.
+    /// The next event as it stands in the bytes held, or None where no event is whole. It is not
+    /// before those that were given. Takes no memory, and leaves the decoder as it is: [`pass`] goes
+    /// on behind the event.
     ///
     /// [`pass`]: Decoder::pass
     #[inline(always)]
     pub fn front(&self) -> Option<Front<'_>>
         ensures front { MatchOption result (HasNoFront self.now)
             (λ front. IsFront self.now front.used (seen_at front.time front.event)) }
+        ensures order { (input : List ℕ) → (given : List Timed) → StandsFor self.now input given →
+            IfSome result (λ front. last_time given ≤ front.time) }
         ensures held { OnSome result (0 < length self.now.held) }
         ensures next { (input : List ℕ) → (given : List Timed) → StandsFor self.now input given →
             (packets : List Packet) → (end : HowItEnds) → Reads input packets end →
@@ -141,6 +145,7 @@ impl Decoder {
         ensures pushed { pushed self.new ≡ pushed self.old }
         ensures room { self.new.room ≡ self.old.room }
         ensures fewer { length self.new.held < length self.old.held }
+        ensures two { length self.new.held + 2 ≤ length self.old.held }
     {
         // Nothing was known of the bytes held, since a packet stands there: so it stays.
         self.held.advance(used);
@@ -189,6 +194,8 @@ impl Decoder {
             IsNext given (timed packets) end result }
         ensures stands { (input : List ℕ) → (given : List Timed) → StandsFor self.old input given →
             StandsFor self.new input (given_after given result) }
+        ensures order { (input : List ℕ) → (given : List Timed) → StandsFor self.old input given →
+            IfOk result (λ event. IfSome event (λ e. last_time given ≤ e.time)) }
         ensures same { IsThrough result → (input : List ℕ) → (given : List Timed) →
             StandsFor self.new input given → StandsFor self.old input given }
         ensures settled { IsThrough result → IsSettled self.new }
@@ -197,6 +204,8 @@ impl Decoder {
         ensures held { length self.new.held ≤ length self.old.held }
         ensures fewer { IfOk result (λ event.
             OnSome event (length self.new.held < length self.old.held)) }
+        ensures two { IfOk result (λ event.
+            OnSome event (length self.new.held + 2 ≤ length self.old.held)) }
         ensures bound { result ≡ Ok None → length self.new.held ≤ 65553 }
         ensures unchanged { IsErrOf result StreamFault.NoMemory → self.new ≡ self.old }
     {

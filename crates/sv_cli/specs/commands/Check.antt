@@ -1,14 +1,10 @@
 -- What `check` writes: how many packets there are, the time of the last one, and the end line.
-use Rattle.std.specs.Prelude.{ℕ, List, [], ◌∷◌, ◌++◌, length, codes}
+use Rattle.std.specs.Prelude.{ℕ, List, [], ◌++◌, length, codes}
 use Rattle.std.specs.Fmt.{decimal}
 use Rattle.sv_packet.specs.declared.event.TimedEvent.{TimedEvent}
+use Rattle.sv_packet.specs.Events.{last_time}
 use Rattle.sv_report.specs.Ends.{end_line}
 use Rattle.sv_cli.specs.Text.{Text}
-
--- the time of the last of some events, or the given one
-abbrev pub last_time : ℕ → List TimedEvent → ℕ
-last_time time [] = time
-last_time time (event ∷ events) = last_time event.time events
 
 -- words, a number, and the line's end
 abbrev pub numbered : List ℕ → ℕ → List ℕ
@@ -18,5 +14,5 @@ abbrev pub check_text : Text
 check_text = record {
   line = λ earlier event. [];
   last = λ events end. numbered (codes "packets ") (length events) ++
-      (numbered (codes "ticks ") (last_time 0 events) ++ end_line end);
+      (numbered (codes "ticks ") (last_time events) ++ end_line end);
 }

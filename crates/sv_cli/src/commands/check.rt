@@ -1,6 +1,7 @@
 //! The command `check`: how much a recording holds.
 ghost use Rattle.std.specs.Prelude.{◌≡◌, ◌++◌, OnOk, length};
-ghost use Rattle.sv_cli.specs.commands.Check.{check_text, numbered, last_time};
+ghost use Rattle.sv_packet.specs.Events.{last_time};
+ghost use Rattle.sv_cli.specs.commands.Check.{check_text, numbered};
 
 use crate::view::View;
 use itoa::Buffer;
@@ -43,7 +44,7 @@ impl View for Check {
 
     ghost shown = { λ view events. view ≡ record {
       packets = length events;
-      time = last_time 0 events;
+      time = last_time events;
     } };
 
     #[inline(always)]

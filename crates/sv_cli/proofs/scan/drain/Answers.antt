@@ -1,7 +1,7 @@
 use Rattle.std.proofs.Common.{◌∷◌, [], ◌++◌, length, ap, arith}
 use Rattle.sv_packet.specs.EventRef.{seen, seen_at}
-use Rattle.sv_cli.proofs.Drained.{given-none, given-more, given-same, drained-none}
-use Rattle.sv_cli.proofs.Drained.{drained-damaged}
+use Rattle.sv_cli.proofs.Drained.{given-none, given-more, given-same, room_for_next}
+use Rattle.sv_cli.proofs.Drained.{drained-none, drained-damaged}
 use Rattle.sv_cli.proofs.scan.drain.Goals as goal
 
 pub loop-front-init : goal.loop-front-init
@@ -52,3 +52,11 @@ returns-in-Err-Damaged g c = (
       (rw c.in-Err-Damaged.field-0-is at c.in-Err-Damaged.ensures.next)
       c.in-Err-Damaged.ensures.settled.1,
 )
+
+pub event-requires : goal.event-requires
+event-requires g c =
+    let r = c.requires in
+    room_for_next g.V.View.text g.V.View.shown c.args.decoder.now c.loop-front.decoder
+    c.args.view.now c.loop-front.view c.args.lines.now.items c.loop-front.lines.items
+    c.loop-front.invariant.0 c.in-Some.front.time c.loop-front.invariant.1 r.0 r.1 r.2 r.3 r.4
+    c.in-Some.ensures.order c.in-Some.ensures.held

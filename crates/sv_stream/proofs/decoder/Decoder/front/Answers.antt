@@ -5,7 +5,8 @@ use Rattle.sv_packet.specs.Reason.{packet_reason}
 use Rattle.sv_packet.specs.EventRef.{packet_seen}
 use Rattle.sv_stream.specs.contracts.decoder.Decoder.{the_view}
 use Rattle.sv_stream.proofs.Giving.{next_given, none_given, bad_given}
-use Rattle.sv_stream.proofs.Fronts.{front_of, front_held, no_front_short, no_front_bad}
+use Rattle.sv_stream.proofs.Fronts.{front_of, front_held, front_later, no_front_short}
+use Rattle.sv_stream.proofs.Fronts.{no_front_bad}
 use Rattle.sv_stream.proofs.decoder.Decoder.front.Goals as goal
 
 pub returns-in-Value-clause-front : goal.returns-in-Value-clause-front
@@ -52,3 +53,7 @@ returns-in-Bad-clause-next c = λ input given s packets end reads.
 pub returns-in-Value-clause-held : goal.returns-in-Value-clause-held
 returns-in-Value-clause-held c =
     front_held c.args.self.now c.in-Value.used _ (returns-in-Value-clause-front c)
+
+pub returns-in-Value-clause-order : goal.returns-in-Value-clause-order
+returns-in-Value-clause-order c =
+    front_later c.args.self.now c.in-Value.used _ (returns-in-Value-clause-front c)

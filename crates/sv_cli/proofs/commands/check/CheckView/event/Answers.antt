@@ -2,7 +2,7 @@ use Rattle.std.proofs.Common.{◌≡◌, ℕ, ◌+◌, [], ◌∷◌, ◌++◌, 
 use Rattle.std.proofs.Common.{length-append}
 use Rattle.sv_packet.specs.EventRef.{seen_at}
 use Rattle.sv_cli.specs.declared.commands.check.Check.{Check}
-use Rattle.sv_cli.proofs.Lines.{last_time-push}
+use Rattle.sv_packet.proofs.Shared.{last_time-more}
 use Rattle.sv_cli.proofs.commands.check.CheckView.event.Goals as goal
 
 pub returns-clause-shown : goal.returns-clause-shown
@@ -12,4 +12,4 @@ returns-clause-shown c = λ earlier is.
     (arith, ap (λ (k : Check). k.packets) is, length-append earlier (event ∷ [])) in
     ap (λ (n : ℕ). record { packets = n; time = event.time }) packets
     ∙ ap (λ (n : ℕ). record { packets = length (earlier ++ event ∷ []); time = n })
-    (sym (last_time-push 0 earlier event))
+    (sym (last_time-more earlier event))

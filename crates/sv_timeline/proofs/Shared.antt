@@ -1,0 +1,3 @@
+-- What crates above may use: the runs that have ended, as the events give them.
+pub use Rattle.sv_timeline.proofs.Listed.{given_ended, runs_grow, timeline_is}
+pub use Rattle.sv_timeline.proofs.Once.{timeline_once}

@@ -17,12 +17,9 @@ abbrev pub is_full_for : List ModuleRow → ℕ → Bool
 is_full_for modules events =
     nat_le 64 (length modules) || nat_lt 16384 (offset_after modules + events)
 
--- a name has 1 to 128 bytes
-abbrev pub IsModule : ModuleRow → Type 0
-IsModule row = (1 ≤ length row.name) × (length row.name ≤ 128)
-
--- these modules could be registered, one after the other
+-- these modules could be registered, one after the other, with names of 1 to 128 bytes
 pub record AreRegistered (modules : List ModuleRow) : Type 0 where
   pub few : length modules ≤ 64
   pub within : offset_after modules ≤ 16384
-  pub named : All IsModule modules
+  pub some : All (λ row. 1 ≤ length row.name) modules
+  pub short : All (λ row. length row.name ≤ 128) modules

@@ -1,6 +1,6 @@
 -- What may be asked of a stored callback, and what it then answers.
-use Rattle.std.specs.Prelude.{◌≡◌, ℕ, ◌*◌, ◌^◌, ◌/◌, ◌%◌, ◌<◌, ◌≤◌, List, [], length, slice_index_or}
-use Rattle.std.specs.Prelude.{All}
+use Rattle.std.specs.Prelude.{◌≡◌, ℕ, ◌*◌, ◌^◌, ◌/◌, ◌%◌, ◌<◌, ◌≤◌, List, [], length, All}
+use Rattle.std.specs.Prelude.{slice_index_or}
 use denote.Ref.{MutBor}
 use denote.Param.Members.{Shared}
 

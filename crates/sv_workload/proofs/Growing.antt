@@ -45,7 +45,8 @@ use Rattle.sv_workload.proofs.Ranged.{TellsOne}
 use Rattle.sv_workload.proofs.Standing.{scripts_count}
 use Rattle.sv_workload.proofs.Steady.{TellsNothing, act_goes_on, turn_tells_nothing, turn_goes_on}
 use Rattle.sv_workload.proofs.Steady.{DescribesNothing, act_describes_nothing}
-use Rattle.sv_workload.proofs.Steady.{turn_describes_nothing}
+use Rattle.sv_workload.proofs.Steady.{turn_describes_nothing, task_describes_nothing}
+use Rattle.sv_workload.proofs.Steady.{writer_describes_nothing, schedule_describes_nothing}
 
 module _ (lines : List Line) (line : Line) where
   told_same : (word : SetupWord) → is_same (keyword.Setup word) line.keyword ≡ false → told word
@@ -324,7 +325,7 @@ module _ (old : Draft) (lines : List Line) (line : Line) (stands : Stands old li
       (stands.scripts ∙ sym (scripts_same lines line tells (rw e refl) (rw e refl)))
       (omega (arith, steps)) (omega (arith, starts))
       (rw e (or_false old.scheduled)) (rw e (sym (append-nil old.schedule)))
-      (undescribed old line (subst DescribesNothing (sym e) (record { time = refl; desc = refl; modules = refl; commands = refl })))
+      (undescribed old line (subst DescribesNothing (sym e) task_describes_nothing))
 
   pub stands-writer : line.keyword ≡ keyword.Writer → Stands
       (record old { scripts = old.scripts ++ [] ∷ [] }) (lines ++ line ∷ [])
@@ -346,7 +347,7 @@ module _ (old : Draft) (lines : List Line) (line : Line) (stands : Stands old li
             old.scripts,
       ))
       (rw e (or_false old.scheduled)) (rw e (sym (append-nil old.schedule)))
-      (undescribed old line (subst DescribesNothing (sym e) (record { time = refl; desc = refl; modules = refl; commands = refl })))
+      (undescribed old line (subst DescribesNothing (sym e) writer_describes_nothing))
 
   -- a step has a writer
   pub a_writer_before : (word : ActWord) → line.keyword ≡ keyword.Act word → 0 < length old.scripts
@@ -413,10 +414,11 @@ module _ (old : Draft) (lines : List Line) (line : Line) (stands : Stands old li
       (stands.scripts ∙ sym (scripts_same lines line tells (rw e refl) (rw e refl)))
       (omega (arith, steps)) (omega (arith, starts))
       (rw e (sym (or_true old.scheduled))) (rw e (sym (append-nil old.schedule)))
-      (undescribed old line (subst DescribesNothing (sym e) (record { time = refl; desc = refl; modules = refl; commands = refl })))
+      (undescribed old line (subst DescribesNothing (sym e) schedule_describes_nothing))
 
   pub stands-turn : (word : TurnWord) (action : Action) → line.keyword ≡ keyword.Turn word → Some
-      action ≡ action_of line → Stands (record old { schedule = old.schedule ++ action ∷ [] }) (lines ++ line ∷ [])
+      action ≡ action_of line → Stands
+      (record old { schedule = old.schedule ++ action ∷ [] }) (lines ++ line ∷ [])
   stands-turn word action e is =
       let on = turn_goes_on word in
       let tells : TellsNothing line.keyword = subst TellsNothing (sym e) (turn_tells_nothing word)

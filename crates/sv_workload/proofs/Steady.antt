@@ -42,6 +42,15 @@ describes_nothing k time desc modules commands =
       commands = differs (keyword.Setup setup.Command) k commands;
     }
 
+pub task_describes_nothing : DescribesNothing (keyword.Setup setup.Task)
+task_describes_nothing = record { time = refl; desc = refl; modules = refl; commands = refl }
+
+pub writer_describes_nothing : DescribesNothing keyword.Writer
+writer_describes_nothing = record { time = refl; desc = refl; modules = refl; commands = refl }
+
+pub schedule_describes_nothing : DescribesNothing keyword.Schedule
+schedule_describes_nothing = record { time = refl; desc = refl; modules = refl; commands = refl }
+
 pub act_describes_nothing : (word : ActWord) → DescribesNothing (keyword.Act word)
 act_describes_nothing word =
     describes_nothing (keyword.Act word) (λ e. cc) (λ e. cc) (λ e. cc) (λ e. cc)

@@ -33,8 +33,8 @@ pub record Draft : Type 0 where
   pub scheduled : Bool
   pub schedule : List Action
 
--- the settings, texts, tasks, commands and turns are of their ranges, and all but the steps are few.
--- Of modules that holds by itself
+-- the settings, texts, tasks, commands and turns are of their ranges, and all but the steps are
+-- few. Of modules that holds by itself
 pub record IsSound (settings : Settings) (lines : List (List ℕ)) (tasks : List Task)
     (commands : List Command) (scripts : List (List Step)) (schedule : List Action) : Type 0 where
   pub ranges : AreInRange settings

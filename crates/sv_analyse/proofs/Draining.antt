@@ -5,7 +5,6 @@ use Rattle.std.specs.Prelude.{false, replicate}
 use Rattle.std.proofs.lemmas.List.{append-nil, length-append, length-replicate}
 use Rattle.sv_packet.specs.declared.event.TimedEvent.{TimedEvent}
 use Rattle.sv_packet.specs.declared.event.Packet.{Packet}
-use Rattle.sv_packet.specs.Time.{timed}
 use Rattle.sv_stream.specs.declared.end.End.{End}
 use Rattle.sv_stream.specs.Reads.{Reads}
 use Rattle.sv_stream.specs.Decoding.{Decoding, pushed, StandsFor as DecoderStandsFor}

@@ -21,7 +21,7 @@ use Rattle.sv_analyse.specs.declared.names.Described.{Described}
 use Rattle.sv_analyse.specs.declared.report.ModuleLine.{ModuleLine}
 use Rattle.sv_analyse.specs.declared.report.System.{System}
 use Rattle.sv_analyse.proofs.FirstSeen.{order_put, order_inserted, seen_put, seen_inserted}
-use Rattle.sv_analyse.proofs.FirstSeen.{nat_same, text_same}
+use Rattle.sv_analyse.proofs.FirstSeen.{text_same}
 
 found_more : {A B : Type 0} (f : A → Option B) (xs : List A) (x : A) (y : B) → f x ≡ Some y →
     filter_map f (xs ++ x ∷ []) ≡ filter_map f xs ++ y ∷ []

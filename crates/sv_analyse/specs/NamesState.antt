@@ -1,5 +1,5 @@
 -- What is kept of the names.
-use Rattle.std.specs.Prelude.{◌≡◌, ℕ, ◌+◌, ◌*◌, ◌^◌, ◌≤◌, Bool, List, ◌∷◌, ◌++◌, length, sum}
+use Rattle.std.specs.Prelude.{◌≡◌, ℕ, ◌+◌, ◌*◌, ◌^◌, ◌≤◌, Bool, List, length, sum}
 use Rattle.std.specs.Prelude.{nat_eq}
 use Rattle.std.specs.Prelude.{bytes_eq, Option, Some, map, filter_map, option_map, cond}
 use Rattle.std.specs.List.{list_any}

@@ -6,11 +6,11 @@
 
 mod analyser;
 mod analysis;
+mod lines;
 mod names;
 mod report;
 mod text;
 
 pub use analyser::Analyser;
-pub use report::{
-    Descriptions, LoadLine, LoadLines, ModuleLine, ModuleLines, Report, System, TaskLine, TaskLines,
-};
+pub use lines::Lines;
+pub use report::{LoadLine, ModuleLine, Report, System, TaskLine};

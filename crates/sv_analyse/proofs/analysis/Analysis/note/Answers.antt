@@ -1,4 +1,4 @@
-use Rattle.std.proofs.Common.{◌≡◌, ◌+◌, List, [], ◌∷◌, ◌++◌, map, sym, subst, arith}
+use Rattle.std.proofs.Common.{◌+◌, List, [], ◌∷◌, ◌++◌, map, sym, subst, arith}
 use Rattle.std.specs.Prelude.{false}
 use Rattle.std.proofs.lemmas.List.{map-append, length-append}
 use Rattle.sv_packet.specs.declared.event.TimedEvent.{TimedEvent}

@@ -1,4 +1,4 @@
-use Rattle.std.proofs.Common.{◌≡◌, List, Some, [], ◌∷◌, ◌++◌, ap, subst, arith}
+use Rattle.std.proofs.Common.{List, Some, [], ◌∷◌, ◌++◌, ap, subst, arith}
 use Rattle.sv_packet.specs.declared.event.Event.{Event}
 use Rattle.sv_packet.specs.EventRef.{seen}
 use Rattle.sv_analyse.specs.NamesState.{NamesState, NamesStandFor}

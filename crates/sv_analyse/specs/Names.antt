@@ -1,7 +1,8 @@
--- Names: the system, the descriptions, the modules, and the tasks' identifiers and names.
+-- Names (UM08027): the system, the descriptions, the modules, and the tasks' identifiers and names.
 use Rattle.std.specs.Prelude.{ℕ, ◌+◌, ◌*◌, ◌%◌, ◌^◌, Bool, true, false, ◌==◌, nat_eq, nat_le, List}
 use Rattle.std.specs.Prelude.{map, filter, filter_map, Option, Some, None, option_and_then}
 use Rattle.std.specs.Prelude.{bytes_eq, if◌then◌else◌}
+use Rattle.sv_prim.specs.Shrink.{unshrunk}
 use Rattle.sv_packet.specs.declared.event.Event.{Event}
 use Rattle.sv_packet.specs.declared.event.Event.TheVariants.{Overflow, TaskInfo, SysDesc}
 use Rattle.sv_packet.specs.declared.event.Event.TheVariants.{ModuleDesc, Init}
@@ -48,14 +49,14 @@ name_in number event = None
 abbrev pub task_name : ℕ → List Event → Option (List ℕ)
 task_name number events = last_of (filter_map (name_in number) events)
 
-abbrev pub unshrunk : Bool → ℕ → System → Option ℕ
-unshrunk true number system = Some ((system.base + number * 2 ^ system.shift) % 2 ^ 32)
-unshrunk false number system = None
+-- a task's identifier by what an INIT says, none where its shift is above 31
+abbrev pub id_by : ℕ → System → Option ℕ
+id_by number system =
+    if nat_le system.shift 31 then Some (unshrunk number system.base system.shift) else None
 
--- the task's identifier by the last INIT, unless its shift is above 31
+-- the task's identifier by the last INIT
 abbrev pub task_id : ℕ → List Event → Option ℕ
-task_id number events = option_and_then (λ system. unshrunk (nat_le system.shift 31) number system)
-    (last_system events)
+task_id number events = option_and_then (id_by number) (last_system events)
 
 -- the packets that an OVERFLOW counts
 abbrev pub lost_in : Event → Option ℕ

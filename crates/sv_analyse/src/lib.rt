@@ -7,6 +7,7 @@
 mod analyser;
 mod analysis;
 mod lines;
+mod lists;
 mod names;
 mod report;
 mod text;

@@ -8,6 +8,7 @@ mod analyser;
 mod analysis;
 mod lines;
 mod lists;
+mod loads;
 mod names;
 mod report;
 mod text;

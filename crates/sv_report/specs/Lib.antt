@@ -4,3 +4,4 @@ pub mod Words
 pub mod Told
 pub mod Growth
 pub mod Spans
+pub mod ReportText

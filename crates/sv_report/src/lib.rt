@@ -8,12 +8,15 @@
 mod ends;
 mod events;
 mod head;
+mod labels;
+mod report;
 mod spans;
 mod table;
 mod texts;
 
 pub use ends::{end_line, reason_number};
 pub use events::event_line;
+pub use report::text;
 pub use spans::span_line;
 
 #[cfg(test)]

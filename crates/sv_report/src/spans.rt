@@ -45,7 +45,7 @@ fn numbered_before(
 /// Puts a context's label, with a space before it, so that it ends at `end`, and tells where it
 /// begins.
 #[inline(always)]
-fn label_before(context: Context, line: &mut [u8; LINE], end: usize) -> usize
+pub fn label_before(context: Context, line: &mut [u8; LINE], end: usize) -> usize
     requires { (28 ≤ end) × (end ≤ 96) }
     ensures start { (result ≤ end) × (end ≤ result + 28) }
     ensures written { drop result line.new ≡ spaced (label_of context) ++ drop end line.old }

@@ -65,6 +65,7 @@ impl Decoder {
     pub fn new(alloc: Global) -> Decoder
         ensures stands { StandsFor result [] [] }
         ensures settled { IsSettled result }
+        ensures time { result.time ≡ 0 }
     {
         Decoder {
             alloc,
@@ -90,6 +91,7 @@ impl Decoder {
         ensures held { OnOk result
             (length self.new.held ≤ length self.old.held + length piece.now) }
         ensures grows { self.old.room ≤ self.new.room }
+        ensures time { OnOk result (self.new.time ≡ self.old.time) }
         ensures unchanged { OnErr result (self.new ≡ self.old) }
         ensures full { OnErr result (self.old.room < length self.old.held + length piece.now) }
     {
@@ -146,6 +148,7 @@ impl Decoder {
         ensures room { self.new.room ≡ self.old.room }
         ensures fewer { length self.new.held < length self.old.held }
         ensures two { length self.new.held + 2 ≤ length self.old.held }
+        ensures time { self.new.time ≡ time }
     {
         // Nothing was known of the bytes held, since a packet stands there: so it stays.
         self.held.advance(used);
@@ -166,6 +169,7 @@ impl Decoder {
         ensures pushed { pushed self.new ≡ pushed self.old }
         ensures room { self.new.room ≡ self.old.room }
         ensures held { self.new.held ≡ self.old.held }
+        ensures time { self.new.time ≡ self.old.time }
         ensures bound { IsOk result → length self.new.held ≤ 65553 }
     {
         match decode_ref(self.held.bytes()) {

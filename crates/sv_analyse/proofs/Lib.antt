@@ -1,0 +1,9 @@
+pub mod Results
+pub mod FirstSeen
+pub mod Naming
+pub mod Silent
+pub mod Draining
+pub mod Sorted
+pub mod Ordered
+pub mod Gathered
+pub mod Reported

@@ -1,0 +1,157 @@
+//! What a recording says, whatever the pieces in which its bytes come.
+ghost use Rattle.std.specs.Prelude.{◌≡◌, ℕ, ◌+◌, ◌^◌, ◌≤◌, ◌++◌, List, [], false, true, ◌↔◌};
+ghost use Rattle.std.specs.Prelude.{IsNone, IsOk, IfOk, OnOk, OnErr, length, option_to_list};
+ghost use Rattle.sv_packet.specs.declared.event.Packet.{Packet};
+ghost use Rattle.sv_packet.specs.declared.event.TimedEvent.{TimedEvent as Timed};
+ghost use Rattle.sv_packet.specs.Time.{timed};
+ghost use Rattle.sv_packet.specs.Events.{last_time};
+ghost use Rattle.sv_stream.specs.declared.end.End.{End as HowItEnds};
+ghost use Rattle.sv_stream.specs.Reads.{Reads};
+ghost use Rattle.sv_stream.specs.Decoding.{pushed, IsSettled, StandsFor as DecoderStandsFor};
+ghost use Rattle.sv_timeline.specs.declared.span.Span.{Span as Run};
+ghost use Rattle.sv_timeline.specs.Timeline.{IsTimeline};
+ghost use Rattle.sv_analyse.specs.Report.{report_of};
+ghost use Rattle.sv_analyse.specs.State.{StandsFor, AnalysisStandsFor, AreAbreast, AreAll};
+
+use crate::analysis::Analysis;
+use crate::report::Report;
+use std::alloc::Global;
+use std::marker::Model;
+use sv_prim::NoMemory;
+use sv_stream::{Decoder, End, StreamFault};
+use sv_timeline::Span;
+
+/// Analyses a recording that comes in pieces.
+///
+/// It stands for an input, all bytes that were fed, and for the runs of its timeline that were given
+/// so far. How the bytes were cut into pieces makes no difference to either.
+#[derive(Drop)]
+pub struct Analyser {
+    decoder: Decoder,
+    analysis: Analysis,
+}
+
+impl Model for Analyser {
+    ghost use Rattle.sv_analyse.specs.State.{State, IsAbreast};
+
+    ghost Value = { State };
+
+    ghost view = { λ a. record {
+      decoder = a.decoder;
+      analysis = a.analysis;
+    } };
+
+    ghost invariant = { λ a. IsAbreast a.decoder a.analysis };
+}
+
+/// Analyses the events that are whole in what was pushed.
+fn drain(
+    decoder: &mut Decoder,
+    analysis: &mut Analysis,
+    spans: &mut Vec<Span>,
+) -> Result<(), NoMemory>
+    requires live { analysis.old.failed ≡ false }
+    requires abreast { AreAbreast decoder.old analysis.old }
+    requires within { pushed decoder.old ≤ 2 ^ 33 }
+    ensures stands { OnOk result ((input : List ℕ) (events : List Timed) (given : List Run) →
+        DecoderStandsFor decoder.old input events → AnalysisStandsFor analysis.old events given →
+        (more : List Run) × (further : List Timed) × (spans.new.items ≡ spans.old.items ++ more)
+        × DecoderStandsFor decoder.new input further
+        × AnalysisStandsFor analysis.new further (given ++ more)) }
+    ensures all { OnOk result (AreAll decoder.new) }
+    ensures settled { OnOk result (IsSettled decoder.new) }
+    ensures live { OnOk result (analysis.new.failed ≡ false) }
+    ensures abreast { OnOk result (AreAbreast decoder.new analysis.new) }
+    ensures pushed { pushed decoder.new ≡ pushed decoder.old }
+    ensures failed { OnErr result (analysis.new.failed ≡ true) }
+{
+    loop {
+        let Some(front) = decoder.front() else {
+            return match decoder.settle() {
+                Ok(()) => Ok(()),
+                Err(StreamFault::Damaged { .. }) => Ok(()),
+                Err(StreamFault::NoMemory) => unreachable!(),
+            };
+        };
+        analysis.note(front.time, &front.event, spans)?;
+        let (used, time) = (front.used, front.time);
+        decoder.pass(used, time);
+    }
+}
+
+impl Analyser {
+    /// An analyser that stands for the empty input. Takes no memory.
+    pub fn new(alloc: Global) -> Analyser
+        ensures stands { StandsFor result [] [] }
+        ensures empty { pushed result.decoder ≡ 0 }
+        ensures live { result.analysis.failed ≡ false }
+    {
+        Analyser {
+            decoder: Decoder::new(alloc),
+            analysis: Analysis::new(alloc),
+        }
+    }
+
+    /// The input goes on with the piece, and the runs that have ended are added to `spans`. All
+    /// pieces together have at most 2^33 bytes. After damage later bytes change nothing.
+    ///
+    /// After NoMemory some of these runs were added, and every later `feed` and `report` answers
+    /// NoMemory.
+    pub fn feed(&mut self, piece: &[u8], spans: &mut Vec<Span>) -> Result<(), NoMemory>
+        requires within { pushed self.old.decoder + length piece.now ≤ 2 ^ 33 }
+        ensures stands { OnOk result ((input : List ℕ) (given : List Run) →
+            StandsFor self.old input given →
+            (more : List Run) × (spans.new.items ≡ spans.old.items ++ more)
+            × StandsFor self.new (input ++ piece.now) (given ++ more)) }
+        ensures pushed { OnOk result
+            (pushed self.new.decoder ≡ pushed self.old.decoder + length piece.now) }
+        ensures live { OnOk result
+            ((self.old.analysis.failed ≡ false) × (self.new.analysis.failed ≡ false)) }
+        ensures failed { OnErr result (self.new.analysis.failed ≡ true) }
+        ensures again { self.old.analysis.failed ≡ true → self.new.analysis.failed ≡ true }
+    {
+        if self.analysis.has_failed() {
+            return Err(NoMemory);
+        }
+        let Ok(()) = self.decoder.push(piece) else {
+            self.analysis.fail();
+            return Err(NoMemory);
+        };
+        drain(&mut self.decoder, &mut self.analysis, spans)
+    }
+
+    /// How the input ends. No `feed` has answered NoMemory.
+    pub fn finish(&self) -> End
+        requires { self.now.analysis.failed ≡ false }
+        ensures { (input : List ℕ) (given : List Run) → StandsFor self.now input given →
+            (packets : List Packet) → (end : HowItEnds) → Reads input packets end → result ≡ end }
+    {
+        self.decoder.finish()
+    }
+
+    /// The run that may still grow. None where no tick has passed. No `feed` has answered NoMemory.
+    pub fn tail(&self) -> Option<Span>
+        requires { self.now.analysis.failed ≡ false }
+        ensures whole { (input : List ℕ) (given : List Run) → StandsFor self.now input given →
+            (packets : List Packet) → (end : HowItEnds) → Reads input packets end →
+            IsTimeline (timed packets) (given ++ option_to_list result) }
+        ensures none { (input : List ℕ) (given : List Run) → StandsFor self.now input given →
+            (packets : List Packet) → (end : HowItEnds) → Reads input packets end →
+            (IsNone result ↔ (last_time (timed packets) ≡ 0)) }
+    {
+        self.analysis.tail()
+    }
+
+    /// The report of the input so far. After NoMemory nothing has changed.
+    pub fn report(&self) -> Result<Report, NoMemory>
+        ensures report { IfOk result (λ report. (input : List ℕ) (given : List Run) →
+            StandsFor self.now input given → (packets : List Packet) → (end : HowItEnds) →
+            Reads input packets end → report ≡ report_of packets end) }
+        ensures live { IsOk result → self.now.analysis.failed ≡ false }
+    {
+        if self.analysis.has_failed() {
+            return Err(NoMemory);
+        }
+        self.analysis.report(self.decoder.finish())
+    }
+}

@@ -12,8 +12,8 @@ ghost use Rattle.sv_core.specs.Played.{IsPlayed, with_step, played_rounds};
 ghost use Rattle.sv_core.specs.Simulated.{IsSimulated};
 
 use std::alloc::Global;
-use sv_prim::NoMemory;
 use sv_journal::Journal;
+use sv_prim::NoMemory;
 use sv_recorder::Recorder;
 use sv_ring::PlainRing;
 use sv_workload::{Action, Workload};

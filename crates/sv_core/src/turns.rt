@@ -8,8 +8,8 @@ ghost use Rattle.sv_core.specs.Turns.{turns_of as turns_in};
 ghost use Rattle.sv_core.specs.Turned.{kept, asked_last, turns_with, RisesLittle};
 
 use std::alloc::Global;
-use sv_prim::NoMemory;
 use sv_journal::{Item, Journal, Origin, Outcome};
+use sv_prim::NoMemory;
 
 /// A writer's step, and whether its section handles a command of the host.
 #[derive(Debug, Clone, Copy, PartialEq, Eq)]

@@ -28,18 +28,21 @@ drop_all xs = ap (drop (length xs)) (sym (append-nil xs)) ∙ drop-append_seam x
 after_by : {A : Type 0} (p : A → Bool) (t : Bool) (xs : List A) (x : A) → p x ≡ t
     → after_last p (xs ++ x ∷ []) ≡ cond t [] (after_last p xs ++ x ∷ [])
 after_by {A} p true xs x test =
-    let none : suffix_len (λ y. not (p y)) (xs ++ x ∷ []) ≡ 0 = rw (suffix_more (λ y. not (p y)) xs
-        x, test) refl in
+    let none : suffix_len (λ y. not (p y)) (xs ++ x ∷ []) ≡ 0 = rw (
+      suffix_more (λ y. not (p y)) xs
+          x,
+      test,
+    ) refl in
     let all : length (xs ++ x ∷ []) - suffix_len (λ y. not (p y)) (xs ++ x ∷ [])
-        ≡ length (xs ++ x ∷ []) = omega arith in
+    ≡ length (xs ++ x ∷ []) = omega arith in
     ap (λ (n : ℕ). drop n (xs ++ x ∷ [])) all ∙ drop_all (xs ++ x ∷ [])
 after_by {A} p false xs x test =
     let one : suffix_len (λ y. not (p y)) (xs ++ x ∷ []) ≡ 1 + suffix_len (λ y. not (p y)) xs =
-        rw (suffix_more (λ y. not (p y)) xs x, test) refl in
+    rw (suffix_more (λ y. not (p y)) xs x, test) refl in
     let from : length (xs ++ x ∷ []) - suffix_len (λ y. not (p y)) (xs ++ x ∷ [])
-        ≡ length xs - suffix_len (λ y. not (p y)) xs = omega (arith, length-append xs (x ∷ [])) in
+    ≡ length xs - suffix_len (λ y. not (p y)) xs = omega (arith, length-append xs (x ∷ [])) in
     ap (λ (n : ℕ). drop n (xs ++ x ∷ [])) from ∙ drop-append-le (length xs - suffix_len (λ y. not
-        (p y)) xs) xs (x ∷ []) (omega arith)
+    (p y)) xs) xs (x ∷ []) (omega arith)
 
 pub after_last-more : {A : Type 0} (p : A → Bool) (xs : List A) (x : A)
     → after_last p (xs ++ x ∷ []) ≡ cond (p x) [] (after_last p xs ++ x ∷ [])
@@ -80,7 +83,7 @@ first_seen-new {A} same xs x new =
     let one : filter here ((xs, x) ∷ []) ≡ (xs, x) ∷ [] = rw new refl in
     ap (λ pairs. map (λ (at : List A × A). at.1) (filter here pairs)) (with_before-more xs x)
     ∙ ap (map (λ (at : List A × A). at.1)) (filter-append here (with_before xs) ((xs, x) ∷ [])
-        ∙ ap (λ rest. filter here (with_before xs) ++ rest) one)
+    ∙ ap (λ rest. filter here (with_before xs) ++ rest) one)
     ∙ map-append (λ (at : List A × A). at.1) (filter here (with_before xs)) ((xs, x) ∷ [])
 
 pub first_seen-again : {A : Type 0} (same : A → A → Bool) (xs : List A) (x : A)
@@ -90,8 +93,8 @@ first_seen-again {A} same xs x again =
     let none : filter here ((xs, x) ∷ []) ≡ [] = rw again refl in
     ap (λ pairs. map (λ (at : List A × A). at.1) (filter here pairs)) (with_before-more xs x)
     ∙ ap (map (λ (at : List A × A). at.1)) (filter-append here (with_before xs) ((xs, x) ∷ [])
-        ∙ ap (λ rest. filter here (with_before xs) ++ rest) none
-        ∙ append-nil (filter here (with_before xs)))
+    ∙ ap (λ rest. filter here (with_before xs) ++ rest) none
+    ∙ append-nil (filter here (with_before xs)))
 
 -- one more element is put in its place
 pub in_order-more : {A : Type 0} (before : A → A → Bool) (xs : List A) (x : A)
@@ -121,7 +124,7 @@ last_time-by packets (empty is) =
     subst (λ (ps : List Packet). last_time (timed ps) ≡ time_of ps) (sym is) refl
 last_time-by packets (ended front last is) =
     let event : TimedEvent = record
-        { time = time_of front + last.delta; event = last.event } in
+    { time = time_of front + last.delta; event = last.event } in
     subst (λ (ps : List Packet). last_time (timed ps) ≡ time_of ps) (sym is)
     (ap last_time (timed-push front last (time_of front) refl)
     ∙ last_time-more (timed front) event

@@ -128,6 +128,83 @@ fn recordings_and_their_texts(rt: HostRuntime) -> Result<(), Fail> {
     Ok(())
 }
 
+/// An interrupt is no part of its task's runs; what is known before lost packets holds neither in
+/// their gap nor after it; runs of no ticks are not written, and an exit with no enter changes
+/// nothing; the recorder's pauses are gaps; damage and a cut end the last run.
+#[test]
+fn timelines_of_recordings(rt: HostRuntime) -> Result<(), Fail> {
+    let alloc = rt.alloc();
+    for (bytes, lines, status, line) in [
+        (
+            b"\x0a\x00\x04\x01\x00\x02\x05\x0a\x03\x04\x11\x06".as_slice(),
+            "0 10 task 1\n10 14 isr 5\n14 20 task 1\n",
+            Status::Done,
+            "end clean\n",
+        ),
+        (
+            b"\x0a\x00\x04\x01\x00\x01\x01\x0a\x03\x05\x04\x01\x05\x11\x05",
+            "0 10 gap\n10 20 unknown\n20 25 task 1\n",
+            Status::Done,
+            "end clean\n",
+        ),
+        (
+            b"\x11\x00\x02\x05\x03\x02\x07\x02\x03\x01\x13\x01\x00\x14\x04\x03\x01\x03\x02",
+            "0 3 idle\n3 5 isr 5\n5 6 isr 7\n6 10 timer 1\n10 11 isr 5\n11 13 idle\n",
+            Status::Done,
+            "end clean\n",
+        ),
+        (
+            b"\x04\x01\x02\x0b\x03\x11\x03\x0a\x01\x04\x02\x02\x05\x01\x11\x01",
+            "0 2 gap\n2 5 task 1\n5 9 gap\n9 11 unknown\n11 12 task 2\n12 13 scheduler\n",
+            Status::Done,
+            "end clean\n",
+        ),
+        (b"", "", Status::Done, "end clean\n"),
+        (b"\x0a\x00\x11\x00", "", Status::Done, "end clean\n"),
+        (
+            b"\x11\x00\x02\x05\x03\x17",
+            "0 3 idle\n",
+            Status::Damaged {
+                place: 15,
+                reason: 2,
+            },
+            "end damaged 15 2\n",
+        ),
+        (
+            b"\x11\x00\x02\x05\x03\x04\x01",
+            "0 3 idle\n",
+            Status::Truncated { held: 2 },
+            "end truncated 2\n",
+        ),
+    ] {
+        let file = synced(alloc, bytes)?;
+        let shown = run(alloc, &["timeline", "f"], &file, &[], &[])?;
+        assert_eq!(rt; shown.status, status, "the timeline of {bytes:?}");
+        assert!(rt; is_text(&shown, lines, line), "the runs of {bytes:?}");
+    }
+    Ok(())
+}
+
+/// As many enters as make a stack of frames long, in none of which a tick passes, and an exit a
+/// tick.
+#[test]
+fn deep_nesting(rt: HostRuntime) -> Result<(), Fail> {
+    let alloc = rt.alloc();
+    let mut file = synced(alloc, &[])?;
+    for _ in 0..100000 {
+        file.extend_from_slice(&[0x02, 0x05, 0x00])?;
+    }
+    for _ in 0..100000 {
+        file.extend_from_slice(&[0x03, 0x01])?;
+    }
+    file.extend_from_slice(&[0x11, 0x01])?;
+    let shown = run(alloc, &["timeline", "f"], &file, &[], &[])?;
+    assert_eq!(rt; shown.status, Status::Done);
+    let lines = "0 100000 isr 5\n100000 100001 unknown\n";
+    assert!(rt; is_text(&shown, lines, "end clean\n"));
+    Ok(())
+}
+
 /// Whether this was written, and then the end line.
 fn is_text(run: &Answered, lines: &str, line: &str) -> bool {
     let out = run.out.bytes();
@@ -198,7 +275,7 @@ fn nothing_is_read_after_damage(rt: HostRuntime) -> Result<(), Fail> {
     for _ in 0..9000 {
         file.push(0x00)?;
     }
-    for command in ["events", "check"] {
+    for command in ["events", "check", "timeline"] {
         let shown = run(alloc, &[command, "f"], &file, &[3], &[])?;
         let place = 12;
         assert_eq!(rt; shown.status, Status::Damaged { place, reason: 2 });
@@ -212,7 +289,8 @@ fn is_usage(alloc: Global, words: &[&str]) -> Result<bool, Fail> {
     let run = run(alloc, words, &[], &[], &[])?;
     Ok(
         run.status == Status::Usage
-            && run.err.bytes() == b"usage: sysview events F | check F | record W\n".as_slice(),
+            && run.err.bytes()
+                == b"usage: sysview events F | check F | timeline F | record W\n".as_slice(),
     )
 }
 
@@ -224,6 +302,8 @@ fn words_and_codes(rt: HostRuntime) -> Result<(), Fail> {
     assert!(rt; is_usage(alloc, &["events"])?);
     assert!(rt; is_usage(alloc, &["events", "f", "f"])?);
     assert!(rt; is_usage(alloc, &["check"])?);
+    assert!(rt; is_usage(alloc, &["timeline"])?);
+    assert!(rt; is_usage(alloc, &["timeline", "f", "f"])?);
     assert!(rt; is_usage(alloc, &["record"])?);
     assert!(rt; is_usage(alloc, &["record", "f", "f"])?);
     assert!(rt; is_usage(alloc, &["--help"])?);

@@ -1,7 +1,6 @@
 -- What `check` writes: how many packets there are, the time of the last one, and the end line.
 use Rattle.std.specs.Prelude.{ℕ, List, [], ◌++◌, length, codes}
 use Rattle.std.specs.Fmt.{decimal}
-use Rattle.sv_packet.specs.declared.event.TimedEvent.{TimedEvent}
 use Rattle.sv_packet.specs.Events.{last_time}
 use Rattle.sv_report.specs.Ends.{end_line}
 use Rattle.sv_cli.specs.Text.{Text}

@@ -1,5 +1,5 @@
-use Rattle.std.proofs.Common.{◌≡◌, ℕ, List, [], ◌∷◌, ◌++◌, flat_map, append-nil, append_assoc}
-use Rattle.std.proofs.Common.{sym, ap, ◌∙◌, Option, Some}
+use Rattle.std.proofs.Common.{◌≡◌, ℕ, List, ◌++◌, flat_map, append-nil, append_assoc}
+use Rattle.std.proofs.Common.{sym, ap, ◌∙◌, Option}
 use Rattle.std.specs.Prelude.{option_to_list}
 use Rattle.sv_timeline.specs.declared.span.Span.{Span}
 use Rattle.sv_report.specs.Ends.{end_line}

@@ -1,6 +1,7 @@
 -- The lists of a report are those of the events.
 use Rattle.std.proofs.Common.{◌≡◌, ℕ, List, [], ◌∷◌, map, refl, sym, ap, ◌∙◌, arith}
-use Rattle.std.specs.Prelude.{Bool, true, false, ◌==◌, nat_eq, filter, filter_map, Option, Some, None}
+use Rattle.std.specs.Prelude.{Bool, true, false, ◌==◌, nat_eq, filter, filter_map, Option, Some}
+use Rattle.std.specs.Prelude.{None}
 use Rattle.std.specs.Prelude.{option_map, option_and_then, if◌then◌else◌}
 use Rattle.std.specs.List.{last_or, cons_option}
 use Rattle.std.proofs.lemmas.Bool.Decides.{nat_tests}

@@ -23,8 +23,8 @@ use sv_timeline::Span;
 
 /// Analyses a recording that comes in pieces.
 ///
-/// It stands for an input, all bytes that were fed, and for the runs of its timeline that were given
-/// so far. How the bytes were cut into pieces makes no difference to either.
+/// It stands for an input, all bytes that were fed, and for the runs of its timeline that were
+/// given so far. How the bytes were cut into pieces makes no difference to either.
 #[derive(Drop)]
 pub struct Analyser {
     decoder: Decoder,

@@ -23,8 +23,8 @@ use sv_prim::NoMemory;
 use sv_stream::End;
 use sv_timeline::{Span, Timeline};
 
-/// The timeline, the latencies and the names of the events so far. Once memory was wanting it has failed, and
-/// stands for nothing.
+/// The timeline, the latencies and the names of the events so far. Once memory was wanting it has
+/// failed, and stands for nothing.
 #[derive(Drop)]
 pub struct Analysis {
     alloc: Global,

@@ -169,30 +169,34 @@ static int take_line(const byte *at, const byte *end) {
     return 0;
 }
 
-/* The ring, and what the host has taken from it. */
-static byte ring[65536], *sent;
-static size_t wr, rd, taken;
+/* The ring, how many bytes it holds, and what the host has taken from it. */
+static byte ring[MOST_RING], *sent;
+static size_t wr, rd, held, taken;
 
-static size_t held(void) { return wr >= rd ? wr - rd : wr + settings[RING] - rd; }
+/* Where a place of the ring comes to after so many bytes. */
+static size_t after(size_t place, size_t length) {
+    size_t next = place + length;
+    return next < settings[RING] ? next : next - settings[RING];
+}
 
 static bool store(const byte *block, size_t length) {
-    size_t size = settings[RING];
-    if (length > size - 1 - held()) return false;
-    size_t first = length < size - wr ? length : size - wr;
+    size_t size = settings[RING], first = length < size - wr ? length : size - wr;
+    if (length > size - 1 - held) return false;
     memcpy(ring + wr, block, first);
     if (first < length) memcpy(ring, block + first, length - first);
-    wr = wr + length < size ? wr + length : wr + length - size;
+    wr = after(wr, length);
+    held += length;
     return true;
 }
 
 /* The host takes what is stored, at most so many bytes. */
 static void take(size_t most) {
-    size_t size = settings[RING], length = held();
-    if (length > most) length = most;
+    size_t size = settings[RING], length = held < most ? held : most;
     size_t first = length < size - rd ? length : size - rd;
     memcpy(sent + taken, ring + rd, first);
     if (first < length) memcpy(sent + taken + first, ring, length - first);
-    rd = rd + length < size ? rd + length : rd + length - size;
+    rd = after(rd, length);
+    held -= length;
     taken += length;
 }
 

@@ -94,7 +94,8 @@ kept_on old middle new before between after first last next event keeps decodes 
             omega (arith, keeps.abreast.few, count, fewer, same);
       };
       same = same ∙ keeps.same;
-      stands = went_on old middle new before between after first last next event keeps.stands decodes
+      stands = went_on old middle new before between after first last next event keeps.stands
+          decodes
           analyses spans;
     }
 

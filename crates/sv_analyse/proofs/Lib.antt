@@ -3,3 +3,7 @@ pub mod FirstSeen
 pub mod Naming
 pub mod Silent
 pub mod Draining
+pub mod Sorted
+pub mod Ordered
+pub mod Gathered
+pub mod Reported

@@ -1,6 +1,6 @@
 //! What a recording says, whatever the pieces in which its bytes come.
 ghost use Rattle.std.specs.Prelude.{◌≡◌, ℕ, ◌+◌, ◌^◌, ◌≤◌, ◌++◌, List, [], false, true, ◌↔◌};
-ghost use Rattle.std.specs.Prelude.{IsNone, OnOk, OnErr, length, option_to_list};
+ghost use Rattle.std.specs.Prelude.{IsNone, IsOk, IfOk, OnOk, OnErr, length, option_to_list};
 ghost use Rattle.sv_packet.specs.declared.event.Packet.{Packet};
 ghost use Rattle.sv_packet.specs.declared.event.TimedEvent.{TimedEvent as Timed};
 ghost use Rattle.sv_packet.specs.Time.{timed};
@@ -10,9 +10,11 @@ ghost use Rattle.sv_stream.specs.Reads.{Reads};
 ghost use Rattle.sv_stream.specs.Decoding.{pushed, IsSettled, StandsFor as DecoderStandsFor};
 ghost use Rattle.sv_timeline.specs.declared.span.Span.{Span as Run};
 ghost use Rattle.sv_timeline.specs.Timeline.{IsTimeline};
+ghost use Rattle.sv_analyse.specs.Report.{report_of};
 ghost use Rattle.sv_analyse.specs.State.{StandsFor, AnalysisStandsFor, AreAbreast, AreAll};
 
 use crate::analysis::Analysis;
+use crate::report::Report;
 use std::alloc::Global;
 use std::marker::Model;
 use sv_prim::NoMemory;
@@ -21,8 +23,8 @@ use sv_timeline::Span;
 
 /// Analyses a recording that comes in pieces.
 ///
-/// It stands for an input, all bytes that were fed, and for the runs of its timeline that were given
-/// so far. How the bytes were cut into pieces makes no difference to either.
+/// It stands for an input, all bytes that were fed, and for the runs of its timeline that were
+/// given so far. How the bytes were cut into pieces makes no difference to either.
 #[derive(Drop)]
 pub struct Analyser {
     decoder: Decoder,
@@ -138,5 +140,18 @@ impl Analyser {
             (IsNone result ↔ (last_time (timed packets) ≡ 0)) }
     {
         self.analysis.tail()
+    }
+
+    /// The report of the input so far. After NoMemory nothing has changed.
+    pub fn report(&self) -> Result<Report, NoMemory>
+        ensures report { IfOk result (λ report. (input : List ℕ) (given : List Run) →
+            StandsFor self.now input given → (packets : List Packet) → (end : HowItEnds) →
+            Reads input packets end → report ≡ report_of packets end) }
+        ensures live { IsOk result → self.now.analysis.failed ≡ false }
+    {
+        if self.analysis.has_failed() {
+            return Err(NoMemory);
+        }
+        self.analysis.report(self.decoder.finish())
     }
 }

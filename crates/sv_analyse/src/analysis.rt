@@ -1,26 +1,33 @@
 //! What the events so far say.
 ghost use Rattle.std.specs.Prelude.{◌≡◌, ◌+◌, ◌^◌, ◌<◌, ◌≤◌, ◌++◌, List, [], ◌∷◌, ◌↔◌};
-ghost use Rattle.std.specs.Prelude.{false, true, OnOk, OnErr, IsNone, option_to_list};
+ghost use Rattle.std.specs.Prelude.{false, true, IfOk, OnOk, OnErr, IsNone, option_to_list};
 ghost use Rattle.sv_packet.specs.declared.event.TimedEvent.{TimedEvent as Timed};
 ghost use Rattle.sv_packet.specs.EventRef.{seen_at};
 ghost use Rattle.sv_packet.specs.Events.{last_time};
 ghost use Rattle.sv_timeline.specs.declared.span.Span.{Span as Run};
 ghost use Rattle.sv_timeline.specs.Timeline.{IsTimeline};
 ghost use Rattle.sv_timeline.specs.State.{ended_by};
+ghost use Rattle.sv_analyse.specs.Report.{report_from};
 ghost use Rattle.sv_analyse.specs.State.{AnalysisStandsFor};
 
+use crate::lines::Lines;
+use crate::lists::{copies, module_lines, task_lines};
+use crate::loads::load_lines;
 use crate::names::Names;
+use crate::report::Report;
 use std::alloc::Global;
 use std::marker::Model;
 use sv_latency::Latency;
 use sv_packet::EventRef;
 use sv_prim::NoMemory;
+use sv_stream::End;
 use sv_timeline::{Span, Timeline};
 
-/// The timeline, the latencies and the names of the events so far. Once memory was wanting it has failed, and
-/// stands for nothing.
+/// The timeline, the latencies and the names of the events so far. Once memory was wanting it has
+/// failed, and stands for nothing.
 #[derive(Drop)]
 pub struct Analysis {
+    alloc: Global,
     timeline: Timeline,
     latency: Latency,
     names: Names,
@@ -53,6 +60,7 @@ impl Analysis {
         ensures last { result.timeline.last ≡ 0 }
     {
         Analysis {
+            alloc,
             timeline: Timeline::new(alloc),
             latency: Latency::new(alloc),
             names: Names::new(alloc),
@@ -115,5 +123,42 @@ impl Analysis {
             AnalysisStandsFor self.now events given → (IsNone result ↔ (last_time events ≡ 0)) }
     {
         self.timeline.tail()
+    }
+
+    /// The time of the last event in ticks, or 0.
+    fn ticks(&self) -> u64
+        ensures { result ≡ self.now.timeline.last }
+    {
+        match self.timeline.tail() {
+            Some(run) => run.end,
+            None => 0,
+        }
+    }
+
+    /// The report of the events so far, with this end.
+    pub fn report(&self, end: End) -> Result<Report, NoMemory>
+        requires live { self.now.failed ≡ false }
+        ensures { IfOk result (λ report. (events : List Timed) (given : List Run) →
+            AnalysisStandsFor self.now events given → report ≡ report_from events end) }
+    {
+        let ticks = self.ticks();
+        let (lost, overflows) = self.names.losses();
+        let descs = copies(self.alloc, self.names.descs())?;
+        let modules = module_lines(self.alloc, &self.names, self.names.modules())?;
+        let loads = load_lines(self.alloc, &self.timeline, ticks)?;
+        let tasks = task_lines(self.alloc, &self.names, self.latency.tasks())?;
+        Ok(Report {
+            packets: self.packets,
+            ticks,
+            lost,
+            overflows,
+            anomalies: self.timeline.anomalies(),
+            system: self.names.system(),
+            descs: Lines::new(descs),
+            modules: Lines::new(modules),
+            loads: Lines::new(loads),
+            tasks: Lines::new(tasks),
+            end,
+        })
     }
 }

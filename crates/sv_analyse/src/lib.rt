@@ -7,6 +7,8 @@
 mod analyser;
 mod analysis;
 mod lines;
+mod lists;
+mod loads;
 mod names;
 mod report;
 mod text;

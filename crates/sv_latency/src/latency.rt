@@ -9,7 +9,8 @@ ghost use Rattle.sv_latency.specs.Class.{task_of};
 ghost use Rattle.sv_latency.specs.Times.{all_times};
 ghost use Rattle.sv_latency.specs.declared.class.TaskTimes.{TaskTimes as Times};
 ghost use Rattle.sv_latency.specs.declared.seen.Seen.{Seen as Kept};
-ghost use Rattle.sv_latency.specs.State.{StandsFor, Holds, IsPlace, IsRising, AreFit, HasRow, passed, cut, noted, started};
+ghost use Rattle.sv_latency.specs.State.{StandsFor, Holds, IsPlace, IsRising, AreFit, HasRow};
+ghost use Rattle.sv_latency.specs.State.{passed, cut, noted, started};
 
 use crate::class::TaskTimes;
 use crate::counting::{blank, class_at, count, no_times};
@@ -26,7 +27,8 @@ const HINTS: usize = 16;
 /// The times of each task in the events so far: its starts, and how long it had waited.
 ///
 /// It keeps one row a task, in order of task, with the last event about it, and nothing else of the
-/// events. A row says of which segment its event is, so a break costs the same with any number of rows.
+/// events. A row says of which segment its event is, so a break costs the same with any number of
+/// rows.
 #[derive(Drop)]
 pub struct Latency {
     names: Vec<u32>,
@@ -223,7 +225,8 @@ impl Latency {
 
     /// The times of each task that an event was about, in order of task.
     pub fn tasks(&self) -> &[TaskTimes]
-        ensures times { (events : List Timed) → StandsFor self.now events → result.now ≡ all_times events }
+        ensures times { (events : List Timed) → StandsFor self.now events →
+            result.now ≡ all_times events }
         ensures state { result.now ≡ self.now.times }
     {
         self.times.as_slice()

@@ -1,5 +1,5 @@
--- The text of a report, line by line (this project's own layout): words, numbers in decimal and texts
--- between quotation marks, parted by one space.
+-- The text of a report, line by line (an own layout): words, numbers in decimal and texts between
+-- quotation marks, parted by one space.
 use Rattle.std.specs.Prelude.{ℕ, ◌/◌, ◌%◌, ◌==◌, List, [], ◌∷◌, ◌++◌, map, flat_map, codes, Option}
 use Rattle.std.specs.Prelude.{Some, None, if◌then◌else◌}
 use Rattle.std.specs.Fmt.{decimal}

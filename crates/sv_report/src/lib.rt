@@ -1,5 +1,5 @@
-//! The lines that the commands print: of an event at its time, of a run of ticks, and of the end of
-//! a recording.
+//! The lines that the commands print: of an event at its time, of a run of ticks, of the end of a
+//! recording, and of a report.
 //!
 //! The contract above this crate: [`event_line`], [`span_line`] and [`end_line`] add exactly the
 //! line of their definition to a buffer, or leave the buffer as it was where memory is wanting.

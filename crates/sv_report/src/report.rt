@@ -2,7 +2,8 @@
 ghost use Rattle.std.specs.Prelude.{◌≡◌, ◌++◌, ◌<◌, ◌/◌, ◌%◌, OnOk, IfOk, codes, flat_map};
 ghost use Rattle.std.specs.Fmt.{decimal};
 ghost use Rattle.sv_report.specs.Lines.{hex_digit as digit_of};
-ghost use Rattle.sv_report.specs.ReportText.{count_line, head_of, lost_line, system_line as line_of_system};
+ghost use Rattle.sv_report.specs.ReportText.{count_line, head_of, lost_line};
+ghost use Rattle.sv_report.specs.ReportText.{system_line as line_of_system};
 ghost use Rattle.sv_report.specs.ReportText.{desc_line, module_line, load_line, task_line, text_of};
 ghost use Rattle.sv_report.specs.ReportText.{id_word, name_word, measured_word, times_words};
 ghost use Rattle.sv_report.specs.Spans.{label_of};

@@ -1,3 +1,4 @@
 -- What crates above may use: the runs that have ended, as the events give them.
 pub use Rattle.sv_timeline.proofs.Listed.{given_ended, runs_grow, timeline_is}
 pub use Rattle.sv_timeline.proofs.Once.{timeline_once}
+pub use Rattle.sv_timeline.proofs.Same.{same_is, same_equiv}

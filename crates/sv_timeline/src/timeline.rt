@@ -2,6 +2,7 @@
 ghost use Rattle.std.specs.Prelude.{◌≡◌, ◌<◌, ◌≤◌, ◌⊎◌, ◌↔◌, IsTrue, IsNone, List, [], ◌∷◌, ◌++◌};
 ghost use Rattle.std.specs.Prelude.{OnOk, OnErr, IfOk, true, option_to_list, map, length};
 ghost use Rattle.std.specs.Prelude.{if◌then◌else◌};
+ghost use Rattle.std.specs.List.{list_any};
 ghost use Rattle.sv_packet.specs.declared.event.Event.{Event as EventOf};
 ghost use Rattle.sv_packet.specs.declared.event.TimedEvent.{TimedEvent as Timed};
 ghost use Rattle.sv_packet.specs.Events.{last_time};
@@ -9,7 +10,9 @@ ghost use Rattle.sv_packet.specs.EventRef.{seen, seen_at};
 ghost use Rattle.sv_context.specs.Role.{role_of, is_enter};
 ghost use Rattle.sv_context.specs.Context.{context_after, anomalies};
 ghost use Rattle.sv_context.specs.State.{StandsFor as ContextsStandFor};
+ghost use Rattle.sv_context.specs.declared.context.Context.{Context as ContextOf};
 ghost use Rattle.sv_context.specs.declared.context.Context.TheVariants.{Gap};
+ghost use Rattle.sv_context.specs.Order.{is_same_context};
 ghost use Rattle.sv_timeline.specs.declared.span.Span.{Span as Run};
 ghost use Rattle.sv_timeline.specs.Ticks.{is_gap_from, is_gap_to as ends_gap};
 ghost use Rattle.sv_timeline.specs.Load.{load_of};
@@ -267,6 +270,16 @@ impl Timeline {
             result ≡ load_of context events }
     {
         self.ticks_of(context)
+    }
+
+    /// The contexts of the runs that have ended, each once, and that of the last one. No other has
+    /// ticks.
+    pub fn contexts(&self) -> (&[Context], Context)
+        ensures { (events : List Timed) (given : List Run) → StandsFor self.now events given →
+            (context : ContextOf) → 0 < load_of context events →
+            list_any (is_same_context context) (result.1 ∷ result.0.now) ≡ true }
+    {
+        (self.totals.contexts(), self.context)
     }
 
     /// The ticks of the context in the runs that have ended, and in the last one.

@@ -1,6 +1,6 @@
 //! Ticks of the runs that have ended, one total for each context.
 ghost use Rattle.std.specs.Prelude.{◌≡◌, ℕ, ◌+◌, ◌^◌, ◌<◌, [], Some, IfOk, IfSome, length};
-ghost use Rattle.std.specs.Prelude.{slice_get, if◌then◌else◌};
+ghost use Rattle.std.specs.Prelude.{slice_get, map, if◌then◌else◌};
 ghost use Rattle.sv_context.specs.declared.context.Context.{Context as ContextOf};
 ghost use Rattle.sv_context.specs.Order.{is_same_context};
 ghost use Rattle.sv_timeline.specs.Totals.{total_in};
@@ -64,6 +64,13 @@ impl Totals {
             Some(ticks) => *ticks,
             None => 0,
         }
+    }
+
+    /// The contexts that have a place.
+    pub fn contexts(&self) -> &[Context]
+        ensures { result.now ≡ map (λ entry. entry.0) self.now }
+    {
+        self.map.keys().as_slice()
     }
 
     /// The place of the context's total, if it is where one of such a context was found before.

@@ -16,7 +16,8 @@ loop-front-preserved c =
 
 pub returns-in-Ok-clause-all : goal.returns-in-Ok-clause-all
 returns-in-Ok-clause-all c = λ input events d packets end reads.
-    (c.in-Ok.ensures.next input events ((c.in-Ok.ensures.stands input events).1 d) packets end reads).0
+    (c.in-Ok.ensures.next input events ((c.in-Ok.ensures.stands input events).1 d) packets end
+    reads).0
 
 pub returns-in-Err-Damaged-clause-all : goal.returns-in-Err-Damaged-clause-all
 returns-in-Err-Damaged-clause-all c = λ input events d packets end reads.

@@ -1,7 +1,7 @@
 -- What a step line that fits says, and the step that it makes.
 use Rattle.std.proofs.Common.{◌≡◌, ℕ, ◌-◌, ◌^◌, ◌≤◌, Bool, true, false, cond, ◌&&◌, not, nat_le}
-use Rattle.std.proofs.Common.{◌+◌, List, [], ◌∷◌, length, take, map, min, get_or, Option, Some, None}
-use Rattle.std.proofs.Common.{refl, sym, ap, subst, ◌∙◌, arith}
+use Rattle.std.proofs.Common.{◌+◌, List, [], ◌∷◌, length, take, map, min, get_or, Option, Some}
+use Rattle.std.proofs.Common.{None, refl, sym, ap, subst, ◌∙◌, arith}
 use Rattle.std.specs.Prelude.{unwrap_or, option_and_then, ◌<◌}
 use borrow.Author.Tests.{ltb-true}
 use Rattle.std.specs.List.{list_all}

@@ -4,7 +4,7 @@ ghost use Rattle.sv_ring.specs.Ring.{Still};
 ghost use Rattle.sv_recorder.specs.Legal.{IsLegal};
 ghost use Rattle.sv_recorder.specs.Plain.{IsPlain};
 ghost use Rattle.sv_recorder.specs.Stream.{stream_of};
-ghost use Rattle.sv_core.specs.Built.{is_built as built};
+ghost use Rattle.sv_core.specs.Built.{is_built as built, has_no_host};
 ghost use Rattle.sv_core.specs.Simulated.{IsSimulated};
 
 use std::alloc::Global;
@@ -13,8 +13,18 @@ use sv_recorder::{Finished, Recorder};
 use sv_ring::PlainRing;
 use sv_workload::Workload;
 
-/// Whether what the workload asks for is built: one writer, no tasks, no schedule, and a ring of at
-/// least 1024 bytes.
+/// Whether the workload tells no time, and has no line, module or command.
+fn has_no_host(load: &Workload) -> bool
+    ensures { result ≡ has_no_host load.now }
+{
+    !load.timed()
+        && load.lines().is_empty()
+        && load.modules().count() == 0
+        && load.commands().is_empty()
+}
+
+/// Whether what the workload asks for is built: one writer, no tasks, no schedule, a ring of at
+/// least 1024 bytes, and nothing for the host.
 pub fn is_built(load: &Workload) -> bool
     ensures { result ≡ built load.now }
 {
@@ -23,6 +33,7 @@ pub fn is_built(load: &Workload) -> bool
         && !load.scheduled()
         && load.schedule().is_empty()
         && load.ring() >= 1024
+        && has_no_host(load)
 }
 
 /// The host takes everything that is stored: a read that does not fill the buffer is the last one.

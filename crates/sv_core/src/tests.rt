@@ -1,4 +1,4 @@
-ghost use Rattle.std.specs.Prelude.{◌≡◌, IfOk};
+ghost use Rattle.std.specs.Prelude.{◌≡◌, ◌==◌, ◌&&◌, not, length, IfOk};
 ghost use Rattle.sv_recorder.specs.Plain.{IsPlain};
 
 use super::*;
@@ -9,6 +9,17 @@ use sv_workload::{Workload, parse};
 /// A start at tick 0 and thirteen marks of the number 5, one tick apart, over a ring of 64 bytes.
 const MARKS: &[u8] = b"ring 64\nwriter\n0 start\n1 mark 5\n1 mark 5\n1 mark 5\n1 mark 5\n1 mark 5\n\
 1 mark 5\n1 mark 5\n1 mark 5\n1 mark 5\n1 mark 5\n1 mark 5\n1 mark 5\n1 mark 5\n";
+
+/// Whether the workload tells no time, and has no line, module or command.
+fn has_no_host(load: &Workload) -> bool
+    ensures { result ≡ (not load.now.timed && (length load.now.lines == 0)
+        && (length load.now.modules == 0) && (length load.now.commands == 0)) }
+{
+    !load.timed()
+        && load.lines().is_empty()
+        && load.modules().count() == 0
+        && load.commands().is_empty()
+}
 
 /// The workload that the text says, which is plain and has a ring of 64 bytes.
 fn plain(alloc: Global, text: &[u8]) -> Result<Workload, Fail>
@@ -21,6 +32,9 @@ fn plain(alloc: Global, text: &[u8]) -> Result<Workload, Fail>
     let load = parse(alloc, text)?;
     if load.writers() != 1 || !load.tasks().is_empty() || load.ring() != 64 {
         return Err(Fail::from("another workload"));
+    }
+    if !has_no_host(&load) {
+        return Err(Fail::from("a workload with a host"));
     }
     Ok(load)
 }

@@ -2,7 +2,6 @@
 use Rattle.std.proofs.Common.{◌≡◌, ℕ, ◌<◌, ◌≤◌, ◌^◌, length, false, List, [], refl, sym, subst}
 use Rattle.std.proofs.Common.{arith}
 use Rattle.std.proofs.lemmas.List.{nil_from_length}
-use Rattle.sv_workload.specs.Grammar.{SaysNothingOfLater}
 use Rattle.sv_workload.specs.Load.{Load, script_of}
 use Rattle.sv_workload.specs.Need.{IsWithinLimits, need_items, need_bytes}
 use Rattle.sv_recorder.specs.declared.journal.Item.{Item}
@@ -53,15 +52,15 @@ fresh load items sent freed limit capacity plain limits items_is sent_is freed_i
     (subst (λ (n : ℕ). IsRecorder load [] [] n limit false 0 0 0 0 capacity) (sym freed_is)
     (nothing load limit capacity plain limits bytes few room)))
 
--- a workload of one writer is plain, where it has no task and nothing that only words of later
--- would say
-pub plain_of : (load : Load) → SaysNothingOfLater load → length load.scripts ≡ 1
-    → length load.tasks ≡ 0 → IsPlain load
-plain_of load later one none = record {
-  timed = later.timed;
-  lines = later.lines;
-  tasks = nil_from_length load.tasks none;
-  modules = later.modules;
-  commands = later.commands;
+-- a workload of one writer is plain, where it tells no time and has no line, task, module or
+-- command
+pub plain_of : (load : Load) → load.timed ≡ false → length load.lines ≡ 0 → length load.tasks ≡ 0
+    → length load.modules ≡ 0 → length load.commands ≡ 0 → length load.scripts ≡ 1 → IsPlain load
+plain_of load timed lines tasks modules commands one = record {
+  timed = timed;
+  lines = nil_from_length load.lines lines;
+  tasks = nil_from_length load.tasks tasks;
+  modules = nil_from_length load.modules modules;
+  commands = nil_from_length load.commands commands;
   writer = one;
 }

@@ -1,4 +1,4 @@
-ghost use Rattle.std.specs.Prelude.{◌≡◌, ◌<◌, length, IfOk};
+ghost use Rattle.std.specs.Prelude.{◌≡◌, ◌<◌, ◌==◌, ◌&&◌, not, length, IfOk};
 ghost use Rattle.sv_recorder.specs.Plain.{IsPlain};
 
 use super::*;
@@ -15,6 +15,17 @@ const START: [u8; 34] = [
     2, 0, 12, 0, 0, 27, 1, 0, 0,
 ];
 
+/// Whether the workload tells no time, and has no line, module or command.
+fn has_no_host(load: &Workload) -> bool
+    ensures { result ≡ (not load.now.timed && (length load.now.lines == 0)
+        && (length load.now.modules == 0) && (length load.now.commands == 0)) }
+{
+    !load.timed()
+        && load.lines().is_empty()
+        && load.modules().count() == 0
+        && load.commands().is_empty()
+}
+
 /// The workload that the text says, which is plain and has a ring of 1024 bytes.
 fn plain(alloc: Global, text: &[u8]) -> Result<Workload, Fail>
     ensures plain { IfOk result (λ load. IsPlain load) }
@@ -27,6 +38,9 @@ fn plain(alloc: Global, text: &[u8]) -> Result<Workload, Fail>
     let load = parse(alloc, text)?;
     if load.writers() != 1 || !load.tasks().is_empty() || load.ring() != 1024 {
         return Err(Fail::from("another workload"));
+    }
+    if !has_no_host(&load) {
+        return Err(Fail::from("a workload with a host"));
     }
     Ok(load)
 }

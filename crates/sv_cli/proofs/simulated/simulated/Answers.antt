@@ -4,5 +4,5 @@ use Rattle.sv_cli.proofs.simulated.simulated.Goals as goal
 
 pub simulate-requires-clause-plain : goal.simulate-requires-clause-plain
 simulate-requires-clause-plain c =
-    plain_built c.in-Ok.load c.in-Ok.ensures.later
+    plain_built c.in-Ok.load
     (sym c.is_built.ensures ∙ c.if-not-is_built.false)

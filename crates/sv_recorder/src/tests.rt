@@ -25,13 +25,12 @@ fn plain(alloc: Global, text: &[u8]) -> Result<Workload, Fail>
     Ok(parse(alloc, text)?)
 }
 
-/// Takes steps of these writers, over and over, until one of them has none, with a read of 20 bytes
-/// after the step of this number, counted from 1. Gives what became of the steps of the numbers
-/// from `from` on.
+/// Takes a step of each writer in turn, over and over, until one of them has none, with a read of
+/// 20 bytes after the step of this number, counted from 1. Gives what became of the steps of the
+/// numbers from `from` on.
 fn run(
     alloc: Global,
     load: &Workload,
-    writers: &[u32],
     read_after: usize,
     from: usize,
     answers: &mut Vec<Answer>,
@@ -41,13 +40,17 @@ fn run(
     let up = PlainRing::new(alloc, load.ring(), load.need().bytes)?;
     let mut recorder = Recorder::new(alloc, load, up)?;
     let mut buf = [0; 20];
-    for (count, writer) in (1..400).zip(writers.iter().cycle()) {
-        if *writer >= load.writers() {
+    let writers = load.writers();
+    let mut next = 0;
+    for count in 1..400 {
+        let writer = if next < writers { next } else { 0 };
+        if writer >= writers {
             break;
         }
-        let Some(answer) = recorder.section(*writer) else {
+        let Some(answer) = recorder.section(writer) else {
             break;
         };
+        next = writer + 1;
         if count == read_after {
             recorder.host_read(&mut buf);
         }
@@ -88,7 +91,7 @@ fn streams_without_a_refusal(rt: HostRuntime) -> Result<(), Fail> {
     ] {
         let load = plain(alloc, text.as_bytes())?;
         let mut answers = Vec::new(alloc);
-        let done = run(alloc, &load, &[0], 0, 0, &mut answers)?;
+        let done = run(alloc, &load, 0, 0, &mut answers)?;
         let mut want = Vec::new(alloc);
         if let Some(tick) = begins {
             let mut start = START;
@@ -109,7 +112,7 @@ fn three_marks_refused_and_counted(rt: HostRuntime) -> Result<(), Fail> {
     let text = marks(alloc, 333)?;
     let load = plain(alloc, &text)?;
     let mut answers = Vec::new(alloc);
-    let done = run(alloc, &load, &[0], 333, 330, &mut answers)?;
+    let done = run(alloc, &load, 333, 330, &mut answers)?;
     assert_eq!(rt;
         answers.as_slice(),
         [
@@ -149,7 +152,7 @@ fn two_writers_and_a_task(rt: HostRuntime) -> Result<(), Fail> {
         writer\n0 start\n2 mark 7\nwriter\n1 mark 5\n1 mark 6\n";
     let load = plain(alloc, text)?;
     let mut answers = Vec::new(alloc);
-    let done = run(alloc, &load, &[0, 1], 0, 0, &mut answers)?;
+    let done = run(alloc, &load, 0, 0, &mut answers)?;
     let mut want = START[..30].to_vec(alloc)?;
     want.extend_from_slice(&TASK)?;
     want.extend_from_slice(&START[30..])?;

@@ -29,3 +29,4 @@ pub mod RoundParts
 pub mod Rounds
 pub mod Playing
 pub mod PlayingLines
+pub mod reads

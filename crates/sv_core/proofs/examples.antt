@@ -6,3 +6,4 @@ pub mod Stopped
 pub mod StoppedFreed
 pub mod Narrow
 pub mod Interleaved
+pub mod Read

@@ -9,3 +9,5 @@ pub mod BadTurns
 pub mod Rises
 pub mod Used
 pub mod Planned
+pub mod Sent
+pub mod Texts

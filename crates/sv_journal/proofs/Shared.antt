@@ -2,8 +2,9 @@
 pub use Rattle.sv_journal.proofs.Scripts.{calls_within, one_script}
 pub use Rattle.sv_journal.proofs.Steps.{latest_first-push, stream_of-push, each-push}
 pub use Rattle.sv_journal.proofs.Steps.{IsLegal-open, IsOpen-legal, IsOpen-push, IsOpen-overflow}
-pub use Rattle.sv_journal.proofs.Steps.{is_on-off, is_on-other, is_on-start, is_on-told}
+pub use Rattle.sv_journal.proofs.Steps.{is_on-off, is_on-other, is_on-start, is_on-stop, is_on-told}
 pub use Rattle.sv_journal.proofs.Steps.{last_moment-other, last_moment-stored}
+pub use Rattle.sv_journal.proofs.Steps.{origins_of-overflow, origins_of-push}
 pub use Rattle.sv_journal.proofs.Steps.{outcome_at-after, outcome_at-control, outcome_at-off}
 pub use Rattle.sv_journal.proofs.Steps.{outcome_at-write, stored_before-le}
 pub use Rattle.sv_journal.proofs.Steps.{pending_at-other, pending_at-refused}

@@ -9,6 +9,7 @@ pub use Rattle.sv_packet.proofs.Growing.{Ending, empty, ended, ending_of}
 pub use Rattle.sv_packet.proofs.Growing.{last_time-more, last_time-timed, times_rise}
 pub use Rattle.sv_packet.proofs.Once.{packet_size}
 pub use Rattle.sv_packet.proofs.Sizes.{plain_small}
+pub use Rattle.sv_packet.proofs.Spelled.{packet_law}
 pub use Rattle.sv_packet.proofs.Taken.{opaque_recordable, print_recordable, short_recordable}
 pub use Rattle.sv_packet.proofs.Times.{time_of-push, timed-append, timed-push, timed_after}
 pub use Rattle.sv_packet.proofs.Totality.{packet_total, reason_one}

@@ -1,0 +1,20 @@
+-- A journal's stream is read as the events that were sent.
+pub mod Tests
+pub mod Fates
+pub mod Later
+pub mod Replies
+pub mod Chained
+pub mod Following
+pub mod Placed
+pub mod Sending
+pub mod Spelled
+pub mod Texts
+pub mod Speakable
+pub mod Starting
+pub mod OneMore
+pub mod Stages
+pub mod Waiting
+pub mod Going
+pub mod Reading
+pub mod Timed
+pub mod Streams

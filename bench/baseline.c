@@ -1,8 +1,8 @@
-/* The commands `events F` and `check F` in plain C, with the same text and the same exit codes, as
- * fast as it gets without threads or vector instructions. It reads through one buffer by read(2),
+/* The commands `events F`, `check F` and `timeline F` in plain C, with the same text and the same
+ * exit codes, as fast as it gets without threads or vector instructions. It reads through one buffer by read(2),
  * writes through another by write(2), and a packet is decoded without a look at the end of what is
  * held, behind which zeros stand, so that what reads past it stops there.
- * Usage: baseline events F | baseline check F */
+ * Usage: baseline events F | baseline check F | baseline timeline F */
 #define _POSIX_C_SOURCE 200809L
 #include <fcntl.h>
 #include <stdbool.h>
@@ -12,6 +12,7 @@
 #include <unistd.h>
 #include "out.h"
 #include "packet.h"
+#include "runs.h"
 
 /* HELD is more than the longest packet, 65554 bytes. PAST is more than a packet without its text or
  * payload. */
@@ -209,9 +210,30 @@ static inline char *put_event(char *at, uint64_t time, const struct packet *p) {
     return at;
 }
 
+/* Of a label 16 bytes go out, whatever its length. */
+static char *put_run(char *at, uint64_t start, uint64_t end, struct context context) {
+    const struct label *label = &labels[context.kind];
+    at = put_long(reserve(at), start);
+    *at++ = ' ';
+    at = put_long(at, end);
+    memcpy(at, label->text, sizeof label->text);
+    at += label->length;
+    if (label->numbered) at = put_spaced(at, context.number);
+    *at++ = '\n';
+    return at;
+}
+
+static inline char *put_ended(char *at, uint64_t time, const struct packet *p) {
+    uint64_t start, last;
+    struct context context;
+    return go_on(time, p, &start, &last, &context) ? put_run(at, start, last, context) : at;
+}
+
 int main(int argc, char **argv) {
     if (argc != 3) return 2;
     bool events = strcmp(argv[1], "events") == 0;
+    bool timeline = strcmp(argv[1], "timeline") == 0;
+    begin_runs();
     int file = open(argv[2], O_RDONLY);
     if (file < 0) return 3;
     uint64_t place = 0, time = 0, packets = 0;
@@ -246,11 +268,13 @@ int main(int argc, char **argv) {
             time += p.delta;
             packets++;
             if (events) at = put_event(at, time, &p);
+            else if (timeline) at = put_ended(at, time, &p);
         }
         if (code < 0 && came == 0) code = !body ? (zeros == 10 ? 0 : 7) : from == end ? 0 : 6;
     }
     at = reserve(at);
-    if (!events) {
+    if (timeline && runs.last > 0) at = reserve(put_run(at, runs.start, runs.last, runs.run));
+    if (!events && !timeline) {
         at = put_long(put_text(at, "packets "), packets);
         at = put_long(put_text(at, "\nticks "), time);
         *at++ = '\n';

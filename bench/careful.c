@@ -1,8 +1,8 @@
-/* The commands `events F` and `check F` in plain C, with the same text and the same exit codes, as
+/* The commands `events F`, `check F` and `timeline F` in plain C, with the same text and the same exit codes, as
  * one writes it who takes no risk: each byte is read behind a comparison with the end of what is
  * held, and nothing is read or written that is not wanted. It reads through one buffer by read(2)
  * and writes through another by write(2).
- * Usage: careful events F | careful check F */
+ * Usage: careful events F | careful check F | careful timeline F */
 #define _POSIX_C_SOURCE 200809L
 #include <fcntl.h>
 #include <stdbool.h>
@@ -12,6 +12,7 @@
 #include <unistd.h>
 #include "out.h"
 #include "packet.h"
+#include "runs.h"
 
 /* More than the longest packet, 65554 bytes. */
 enum { HELD = 131072 };
@@ -193,9 +194,29 @@ static inline char *put_event(char *at, uint64_t time, const struct packet *p) {
     return at;
 }
 
+static char *put_run(char *at, uint64_t start, uint64_t end, struct context context) {
+    const struct label *label = &labels[context.kind];
+    at = put_number(reserve(at), start);
+    *at++ = ' ';
+    at = put_number(at, end);
+    memcpy(at, label->text, label->length);
+    at += label->length;
+    if (label->numbered) at = put_spaced(at, context.number);
+    *at++ = '\n';
+    return at;
+}
+
+static inline char *put_ended(char *at, uint64_t time, const struct packet *p) {
+    uint64_t start, end;
+    struct context context;
+    return go_on(time, p, &start, &end, &context) ? put_run(at, start, end, context) : at;
+}
+
 int main(int argc, char **argv) {
     if (argc != 3) return 2;
     bool events = strcmp(argv[1], "events") == 0;
+    bool timeline = strcmp(argv[1], "timeline") == 0;
+    begin_runs();
     int file = open(argv[2], O_RDONLY);
     if (file < 0) return 3;
     uint64_t place = 0, time = 0, packets = 0;
@@ -231,11 +252,13 @@ int main(int argc, char **argv) {
             time += p.delta;
             packets++;
             if (events) at = put_event(at, time, &p);
+            else if (timeline) at = put_ended(at, time, &p);
         }
         if (code < 0 && came == 0) code = !body ? (zeros == 10 ? 0 : 7) : from == end ? 0 : 6;
     }
     at = reserve(at);
-    if (!events) {
+    if (timeline && runs.last > 0) at = reserve(put_run(at, runs.start, runs.last, runs.run));
+    if (!events && !timeline) {
         at = put_number(put_text(at, "packets "), packets);
         at = put_number(put_text(at, "\nticks "), time);
         *at++ = '\n';

@@ -1,4 +1,4 @@
-ghost use Rattle.std.specs.Prelude.{IfOk};
+ghost use Rattle.std.specs.Prelude.{◌≤◌, IfOk};
 ghost use Rattle.sv_recorder.specs.Plain.{IsPlain};
 
 use super::*;
@@ -14,11 +14,14 @@ const MARKS: &[u8] = b"ring 64\nwriter\n0 start\n1 mark 5\n1 mark 5\n1 mark 5\n1
 /// The workload that the text says, which is plain.
 fn plain(alloc: Global, text: &[u8]) -> Result<Workload, Fail>
     ensures plain { IfOk result (λ load. IsPlain load) }
+    ensures ring { IfOk result (λ load. load.ring ≤ 65536) }
 {
     if text.len() >= 1 << 32 {
         return Err(Fail::from("a text of 2^32 bytes"));
     }
-    Ok(parse(alloc, text)?)
+    let load = parse(alloc, text)?;
+    let _ = load.ring();
+    Ok(load)
 }
 
 /// Fourteen turns of the one writer, of whose nineteen frees all are 0 but the one before the last.

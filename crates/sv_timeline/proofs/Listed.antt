@@ -1,16 +1,14 @@
 -- The list of runs that the ticks give is the timeline, and grows at its end.
-use Rattle.std.proofs.Common.{◌≡◌, ℕ, zero, suc, ◌+◌, ◌-◌, ◌<◌, ◌≤◌, List, [], ◌∷◌, ◌++◌, length}
+use Rattle.std.proofs.Common.{◌≡◌, ℕ, ◌+◌, ◌-◌, ◌<◌, ◌≤◌, List, [], ◌∷◌, ◌++◌, length}
 use Rattle.std.proofs.Common.{map, take, refl, sym, ap, subst, ◌∙◌, append_assoc, arith}
 use Rattle.std.specs.Prelude.{Bool, true, false, not, ◌&&◌, nat_lt, replicate, flat_map}
 use Rattle.std.specs.Prelude.{if◌then◌else◌}
-use Rattle.std.specs.List.{list_all, range_with_len}
 use Rattle.std.proofs.lemmas.List.{append-nil, length-append}
 use Rattle.std.proofs.lemmas.List.FromFn.{length-map-range_with_len}
 use Rattle.std.proofs.Math.Seq.{take-append_seam}
 use Rattle.sv_packet.specs.declared.event.Packet.{Packet}
 use Rattle.sv_packet.specs.declared.event.TimedEvent.{TimedEvent}
 use Rattle.sv_packet.specs.Time.{timed}
-use Rattle.sv_packet.specs.Lists.{neighbours}
 use Rattle.sv_packet.specs.Events.{last_time}
 use Rattle.sv_packet.proofs.Shared.{last_time-more, times_rise}
 use Rattle.sv_context.specs.declared.context.Context.{Context}
@@ -20,7 +18,7 @@ use Rattle.sv_timeline.specs.declared.span.Span.{Span}
 use Rattle.sv_timeline.specs.Ticks.{context_at, ticks_of}
 use Rattle.sv_timeline.specs.Timeline.{ticks_in, AreInRow, are_apart, IsTimeline}
 use Rattle.sv_timeline.specs.Runs.{joined, runs_from, timeline_of, ended_runs}
-use Rattle.sv_timeline.specs.State.{State, StandsFor, tail_list}
+use Rattle.sv_timeline.specs.State.{State, StandsFor}
 use Rattle.sv_timeline.proofs.Growing.{AreUpTo}
 use Rattle.sv_timeline.proofs.Once.{timeline_once}
 use Rattle.sv_timeline.proofs.Runs.{span_of, replicate-add}

@@ -11,8 +11,8 @@ use Rattle.sv_packet.specs.Spelling.{spelling_of}
 use Rattle.sv_workload.specs.declared.load.Act.{Act}
 use Rattle.sv_workload.specs.declared.load.Act.TheVariants as acts
 use Rattle.sv_workload.specs.declared.load.Task.{Task}
-use Rattle.sv_workload.specs.declared.load.ModuleRow.{ModuleRow}
-use Rattle.sv_workload.specs.Load.{Load, act_of, period, offset_after}
+use Rattle.sv_desc.specs.Modules.{ModuleRow, offset_after}
+use Rattle.sv_workload.specs.Load.{Load, act_of, period}
 use Rattle.sv_workload.specs.Need.{is_start_act, is_stop_act}
 use Rattle.sv_journal.specs.declared.journal.Kind.{Kind}
 use Rattle.sv_journal.specs.declared.journal.Kind.TheVariants as kinds

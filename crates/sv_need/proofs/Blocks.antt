@@ -17,7 +17,7 @@ use Rattle.sv_packet.specs.Spelling.{short_spelling, head_spelling, spelling_of,
 use Rattle.sv_packet.specs.Spelling.{fields_spelling}
 use Rattle.sv_packet.proofs.Shared.{plain_small}
 use Rattle.sv_workload.specs.declared.load.Task.{Task}
-use Rattle.sv_workload.specs.declared.load.ModuleRow.{ModuleRow}
+use Rattle.sv_desc.specs.Modules.{ModuleRow}
 use Rattle.sv_workload.specs.Load.{Load}
 use Rattle.sv_journal.specs.declared.journal.Kind.{Kind}
 use Rattle.sv_journal.specs.declared.journal.Kind.TheVariants as kinds

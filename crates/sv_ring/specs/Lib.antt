@@ -1,3 +1,4 @@
 pub mod Looks
 pub mod Ring
 pub mod Plain
+pub mod Down

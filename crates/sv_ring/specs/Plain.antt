@@ -17,3 +17,9 @@ pub record FitsPlainRing (stored taken size limit capacity : ℕ) : Type 0 where
   pub held : stored - taken ≤ size - 1
   pub within : stored ≤ limit
   pub reserved : limit ≤ capacity
+
+-- all bytes that were sent, those that are taken, and how often there was none
+pub record PlainCommands : Type 0 where
+  pub asked : List ℕ
+  pub answered : List ℕ
+  pub empties : ℕ

@@ -4,6 +4,9 @@ pub mod Writes
 pub mod Formed
 pub mod Book
 pub mod Plain
+pub mod Tells
+pub mod Commands
 pub mod Replies
 pub mod Answer
 pub mod Recording
+pub mod Asked

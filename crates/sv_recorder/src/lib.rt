@@ -11,6 +11,7 @@
 
 mod answer;
 mod book;
+mod inbox;
 mod packet;
 mod recorder;
 mod section;

@@ -1,0 +1,60 @@
+//! What the host asks, taken from its ring byte by byte.
+ghost use Rattle.std.specs.Prelude.{◌≡◌, ◌+◌, ◌<◌, ◌≤◌, None, length};
+ghost use Rattle.sv_ring.specs.Down.{given};
+ghost use Rattle.sv_journal.specs.Section.{command_head};
+
+use sv_ring::DownReader;
+use sv_workload::Command;
+
+/// The end of the host's ring, with the byte of a command whose parameter is not there yet, and how
+/// many commands came.
+#[derive(Drop)]
+pub struct Inbox<D: DownReader + Drop> {
+    pub down: D,
+    pub kept: Option<u8>,
+    pub count: u32,
+}
+
+impl<D: DownReader + Drop> Inbox<D> {
+    ghost use Rattle.sv_recorder.specs.Commands.{IsWaiting, Takes};
+
+    /// The next command, where all of its bytes are there. From the byte 128 on it has a parameter,
+    /// and waits for that.
+    fn take(&mut self) -> Option<Command>
+        requires waits { IsWaiting (given self.old.kept) }
+        ensures takes { Takes self.old self.new result }
+        ensures count { self.new.count ≡ self.old.count }
+    {
+        let byte = match self.kept {
+            Some(byte) => byte,
+            None => self.down.next()?,
+        };
+        self.kept = None;
+        if byte < 128 {
+            return Some(Command { byte, param: 0 });
+        }
+        let Some(param) = self.down.next() else {
+            self.kept = Some(byte);
+            return None;
+        };
+        Some(Command { byte, param })
+    }
+
+    /// The next command, as long as fewer than so many came.
+    #[inline(always)]
+    pub fn next(&mut self, most: u32) -> Option<Command>
+        requires waits { IsWaiting (given self.old.kept) }
+        ensures takes { self.old.count < most → Takes self.old self.new result }
+        ensures through { most ≤ self.old.count → (result ≡ None) × (self.new ≡ self.old) }
+        ensures count { self.new.count ≡ self.old.count + length (command_head result) }
+    {
+        if self.count >= most {
+            return None;
+        }
+        let found = self.take();
+        if found.is_some() {
+            self.count += 1;
+        }
+        found
+    }
+}

@@ -1,6 +1,8 @@
 pub mod Shared
 pub mod examples
 pub mod Freed
+pub mod Rows
+pub mod Commands
 pub mod Items
 pub mod Packets
 pub mod Overflows
@@ -14,4 +16,5 @@ pub mod Giving
 pub mod Books
 pub mod Recorders
 pub mod Views
+pub mod Sections
 pub mod Fresh

@@ -1,5 +1,5 @@
 -- What a section asks of the host.
-use Rattle.std.specs.Prelude.{◌≡◌, ◌<◌, ◌≤◌, List, ◌++◌, Option, None, IfSome, length, count_by}
+use Rattle.std.specs.Prelude.{◌≡◌, ℕ, ◌<◌, ◌≤◌, List, ◌++◌, Option, None, IfSome, length, count_by}
 use Rattle.sv_ring.specs.Looks.{Rose}
 use Rattle.sv_workload.specs.declared.load.Command.{Command}
 use Rattle.sv_journal.specs.Items.{is_command}

@@ -1,7 +1,6 @@
 -- Commands of the host, as the bytes that say them.
 use Rattle.std.specs.Prelude.{◌≡◌, ℕ, ◌<◌, ◌≤◌, nat_lt, List, [], ◌∷◌, ◌++◌, Option, Some, None}
-use Rattle.std.specs.Prelude.{flat_map, IfSome, if◌then◌else◌}
-use Rattle.sv_ring.specs.declared.down_reader.DownReader.{Ghosts}
+use Rattle.std.specs.Prelude.{flat_map, IfSome, ◌⊎◌, if◌then◌else◌}
 use Rattle.sv_ring.specs.Down.{given}
 use Rattle.sv_ring.specs.Looks.{Rose}
 use Rattle.sv_workload.specs.declared.load.Command.{Command}
@@ -34,14 +33,21 @@ HasParam command = command.byte < 128 → command.param ≡ 0
 
 -- the ring was asked for a command, and this one was found: what waited and was taken are its bytes
 -- and what waits now. Where none was found, the last call of the ring gave no byte
-pub record Takes {D : Type 0} {d : Ghosts D} (old new : Inbox D d) (found : Option Command)
-    : Type 0 where
-  pub ring_same : d.ring new.down ≡ d.ring old.down
-  pub asked_same : d.asked new.down ≡ d.asked old.down
+pub record Takes {D : Type 0} (ring : D → List (List ℕ)) (answered : D → List ℕ) (empties : D → ℕ)
+    (asked : D → Option (List ℕ)) (old new : Inbox D) (found : Option Command) : Type 0 where
+  pub ring_same : ring new.down ≡ ring old.down
+  pub asked_same : asked new.down ≡ asked old.down
   pub taken : List ℕ
-  pub answered : d.answered new.down ≡ d.answered old.down ++ taken
+  pub gained : answered new.down ≡ answered old.down ++ taken
   pub bytes : given old.kept ++ taken ≡ found_bytes found ++ given new.kept
   pub param : IfSome found HasParam
   pub waits : IsWaiting (given new.kept)
-  pub none : found ≡ None → Rose (d.empties old.down) (d.empties new.down)
-      × IfSome (d.asked new.down) (λ asked. d.answered new.down ≡ asked)
+  pub none : found ≡ None → Rose (empties old.down) (empties new.down)
+      × IfSome (asked new.down) (λ bytes. answered new.down ≡ bytes)
+
+-- the ring is asked as long as fewer commands came than that, and else nothing changes
+abbrev pub Asks : {D : Type 0} → (D → List (List ℕ)) → (D → List ℕ) → (D → ℕ)
+    → (D → Option (List ℕ)) → ℕ → Inbox D → Inbox D → Option Command → Type 0
+Asks {D} ring answered empties asked most old new found =
+    ((most ≤ old.count) × (found ≡ None) × (new ≡ old))
+    ⊎ ((old.count < most) × Takes ring answered empties asked old new found)

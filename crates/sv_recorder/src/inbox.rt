@@ -1,5 +1,5 @@
 //! What the host asks, taken from its ring byte by byte.
-ghost use Rattle.std.specs.Prelude.{◌≡◌, ◌+◌, ◌<◌, ◌≤◌, None, length};
+ghost use Rattle.std.specs.Prelude.{◌≡◌, ◌+◌, length};
 ghost use Rattle.sv_ring.specs.Down.{given};
 ghost use Rattle.sv_journal.specs.Section.{command_head};
 
@@ -16,13 +16,13 @@ pub struct Inbox<D: DownReader + Drop> {
 }
 
 impl<D: DownReader + Drop> Inbox<D> {
-    ghost use Rattle.sv_recorder.specs.Commands.{IsWaiting, Takes};
+    ghost use Rattle.sv_recorder.specs.Commands.{Asks, IsWaiting, Takes};
 
     /// The next command, where all of its bytes are there. From the byte 128 on it has a parameter,
     /// and waits for that.
     fn take(&mut self) -> Option<Command>
         requires waits { IsWaiting (given self.old.kept) }
-        ensures takes { Takes self.old self.new result }
+        ensures takes { Takes D.ring D.answered D.empties D.asked self.old self.new result }
         ensures count { self.new.count ≡ self.old.count }
     {
         let byte = match self.kept {
@@ -44,8 +44,8 @@ impl<D: DownReader + Drop> Inbox<D> {
     #[inline(always)]
     pub fn next(&mut self, most: u32) -> Option<Command>
         requires waits { IsWaiting (given self.old.kept) }
-        ensures takes { self.old.count < most → Takes self.old self.new result }
-        ensures through { most ≤ self.old.count → (result ≡ None) × (self.new ≡ self.old) }
+        ensures asks { Asks D.ring D.answered D.empties D.asked most self.old self.new result }
+        ensures waits { IsWaiting (given self.new.kept) }
         ensures count { self.new.count ≡ self.old.count + length (command_head result) }
     {
         if self.count >= most {

@@ -14,6 +14,7 @@ mod book;
 mod inbox;
 mod packet;
 mod recorder;
+mod replies;
 mod section;
 
 pub use answer::Answer;

@@ -3,6 +3,7 @@ pub mod examples
 pub mod Freed
 pub mod Rows
 pub mod Commands
+pub mod Inboxes
 pub mod Items
 pub mod Packets
 pub mod Overflows

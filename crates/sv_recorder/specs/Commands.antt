@@ -31,6 +31,20 @@ IsWaiting (byte ∷ more) = (128 ≤ byte) × (more ≡ [])
 abbrev pub HasParam : Command → Type 0
 HasParam command = command.byte < 128 → command.param ≡ 0
 
+-- the first byte of a command was looked for, and this one was found: the one that waited, or else
+-- the next of the ring. Where none was found, the ring gave no byte
+pub record Begins {D : Type 0} (ring : D → List (List ℕ)) (answered : D → List ℕ) (empties : D → ℕ)
+    (asked : D → Option (List ℕ)) (old new : Inbox D) (found : Option ℕ) : Type 0 where
+  pub ring_same : ring new.down ≡ ring old.down
+  pub asked_same : asked new.down ≡ asked old.down
+  pub taken : List ℕ
+  pub gained : answered new.down ≡ answered old.down ++ taken
+  pub bytes : given old.kept ++ taken ≡ given found
+  pub kept : new.kept ≡ None
+  pub count : new.count ≡ old.count
+  pub none : found ≡ None → Rose (empties old.down) (empties new.down)
+      × IfSome (asked new.down) (λ bytes. answered new.down ≡ bytes)
+
 -- the ring was asked for a command, and this one was found: what waited and was taken are its bytes
 -- and what waits now. Where none was found, the last call of the ring gave no byte
 pub record Takes {D : Type 0} (ring : D → List (List ℕ)) (answered : D → List ℕ) (empties : D → ℕ)

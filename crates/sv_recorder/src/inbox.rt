@@ -16,20 +16,27 @@ pub struct Inbox<D: DownReader + Drop> {
 }
 
 impl<D: DownReader + Drop> Inbox<D> {
-    ghost use Rattle.sv_recorder.specs.Commands.{Asks, IsWaiting, Takes};
+    ghost use Rattle.sv_recorder.specs.Commands.{Asks, Begins, IsWaiting, Takes};
+
+    /// The first byte of the next command: the one that waits, or else the next of the ring.
+    #[inline(always)]
+    fn first(&mut self) -> Option<u8>
+        ensures { Begins D.ring D.answered D.empties D.asked self.old self.new result }
+    {
+        if let Some(byte) = self.kept {
+            self.kept = None;
+            return Some(byte);
+        }
+        self.down.next()
+    }
 
     /// The next command, where all of its bytes are there. From the byte 128 on it has a parameter,
     /// and waits for that.
     fn take(&mut self) -> Option<Command>
-        requires waits { IsWaiting (given self.old.kept) }
         ensures takes { Takes D.ring D.answered D.empties D.asked self.old self.new result }
         ensures count { self.new.count ≡ self.old.count }
     {
-        let byte = match self.kept {
-            Some(byte) => byte,
-            None => self.down.next()?,
-        };
-        self.kept = None;
+        let byte = self.first()?;
         if byte < 128 {
             return Some(Command { byte, param: 0 });
         }

@@ -244,11 +244,13 @@ fn waits_for_a_parameter(rt: HostRuntime) -> Result<(), Fail> {
         freed: 0,
         outcome: Outcome::Stored,
     };
-    assert_eq!(rt; &done.journal.items()[8..], [command, module].as_slice());
-    assert_eq!(rt;
-        &done.up.bytes()[34..],
-        [15, 5, 1, 15, 6, 1, 22, 0, 128, 4, 5, 77, 61, 78, 101, 116, 0].as_slice()
-    );
+    let mut items = done.journal.items().iter().rev();
+    assert_eq!(rt; items.next(), Some(&module));
+    assert_eq!(rt; items.next(), Some(&command));
+    let mut want = START[..30].to_vec(alloc)?;
+    want.extend_from_slice(&[27, 1, 1, 0, 15, 5, 1, 15, 6, 1])?;
+    want.extend_from_slice(&[22, 0, 128, 4, 5, 77, 61, 78, 101, 116, 0])?;
+    assert_eq!(rt; done.up.bytes(), want.as_slice());
     Ok(())
 }
 

@@ -234,9 +234,12 @@ module _ {U : Type 0} {u : Ghosts U} where
         items = items_ahead old.load.now (group_of old.load.now head);
         bytes = bytes_ahead old.load.now (group_of old.load.now head);
         goes = goes;
-        kept = λ held clock here. kept (record
-            { held = held; here = here; clock = let e : old.moment ≡ 0 + clock_of old.load.now
-            old.journal.items = omega (arith, clock) in e });
+        kept = λ held clock here. kept (record {
+          held = held;
+          here = here;
+          clock = let e : old.moment ≡ 0 + clock_of old.load.now
+              old.journal.items = omega (arith, clock) in e;
+        });
       })
     where
       head : Origin

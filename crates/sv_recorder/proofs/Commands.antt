@@ -3,7 +3,7 @@ use Rattle.std.proofs.Common.{◌≡◌, ℕ, ◌+◌, ◌<◌, ◌≤◌, Bool,
 use Rattle.std.proofs.Common.{◌++◌, length, get_or, drop, refl, sym, ap, ◌∙◌, subst, arith}
 use Rattle.std.proofs.Common.{append_assoc, append-nil, vec_capacity, inl, inr}
 use Rattle.std.specs.Prelude.{◌⊎◌, Option, Some, None, filter, find, flat_map, count_by, sum_by, map}
-use Rattle.std.specs.Prelude.{IfSome, IsTrue}
+use Rattle.std.specs.Prelude.{IfSome}
 use Rattle.std.specs.Option.{option_map_or}
 use Rattle.std.proofs.lemmas.List.{length-append}
 use Rattle.std.proofs.lemmas.List.Concat.{flat_map-append, flat_map-cons}
@@ -73,19 +73,22 @@ group-none : (items more : List Item) → filter is_head (origins_of more) ≡ [
     → is_after_call_group (latest_first (items ++ more)) ≡ is_after_call_group (latest_first items)
 group-none items [] none = ap (λ is. is_after_call_group (latest_first is)) (append-nil items)
 group-none items (i ∷ more) none = by (is_head i.origin) refl
+    (λ rest. group-none (items ++ i ∷ []) more rest)
   where
     by : (b : Bool) → is_head i.origin ≡ b
+        → (filter is_head (origins_of more) ≡ []
+        → is_after_call_group (latest_first ((items ++ i ∷ []) ++ more))
+        ≡ is_after_call_group (latest_first (items ++ i ∷ [])))
         → is_after_call_group (latest_first (items ++ i ∷ more))
         ≡ is_after_call_group (latest_first items)
-    by true head = absurd (filled (sym (heads-take i.origin (map (λ (j : Item). j.origin) more) head)
+    by true head next = absurd (filled (sym (heads-take i.origin (map (λ (j : Item). j.origin) more) head)
         ∙ none))
       where
         filled : {o : Origin} {os : List Origin} → o ∷ os ≡ [] → ⊥
         filled e = cc
-    by false other =
+    by false other next =
         ap (λ is. is_after_call_group (latest_first is)) (regrouped items i more)
-        ∙ group-none (items ++ i ∷ []) more
-        (sym (heads-skip i.origin (map (λ (j : Item). j.origin) more) other) ∙ none)
+        ∙ next (sym (heads-skip i.origin (map (λ (j : Item). j.origin) more) other) ∙ none)
         ∙ ap is_after_call_group (latest_first-push items i)
         ∙ group-skip i (latest_first items) other
 
@@ -98,10 +101,13 @@ group-call items [] writer place one = absurd (filled one)
     filled : {o : Origin} {os : List Origin} → [] ≡ o ∷ os → ⊥
     filled e = cc
 group-call items (i ∷ more) writer place one = by (is_head i.origin) refl
+    (λ rest. group-call (items ++ i ∷ []) more writer place rest)
   where
     by : (b : Bool) → is_head i.origin ≡ b
+        → (filter is_head (origins_of more) ≡ origins.Call writer place ∷ []
+        → is_after_call_group (latest_first ((items ++ i ∷ []) ++ more)) ≡ true)
         → is_after_call_group (latest_first (items ++ i ∷ more)) ≡ true
-    by true head =
+    by true head next =
         let split : i.origin ∷ heads_in (map (λ (j : Item). j.origin) more)
         ≡ origins.Call writer place ∷ [] =
         sym (heads-take i.origin (map (λ (j : Item). j.origin) more) head) ∙ one in
@@ -110,10 +116,9 @@ group-call items (i ∷ more) writer place one = by (is_head i.origin) refl
         ∙ ap is_after_call_group (latest_first-push items i)
         ∙ group-take i (latest_first items) head
         ∙ ap is_call (ap (λ os. get_or os 0 origins.Sync) split)
-    by false other =
+    by false other next =
         ap (λ is. is_after_call_group (latest_first is)) (regrouped items i more)
-        ∙ group-call (items ++ i ∷ []) more writer place
-        (sym (heads-skip i.origin (map (λ (j : Item). j.origin) more) other) ∙ one)
+        ∙ next (sym (heads-skip i.origin (map (λ (j : Item). j.origin) more) other) ∙ one)
 
 -- only heads are commands
 head_commands : (o : Origin) (os : List Origin)
@@ -234,14 +239,11 @@ module _ {U : Type 0} {u : Ghosts U} where
       record {
         may = record { step = tt; command = λ e. omega (arith, as_many, most, count_is, few) };
         place = (
-          told (ap (λ is. is_after_call_group (latest_first is)) goes.added
-              ∙ group-call mid.journal.items goes.more writer place goes.headed),
+          ap (λ is. is_after_call_group (latest_first is)) goes.added
+              ∙ group-call mid.journal.items goes.more writer place goes.headed,
           param,
         );
       }
-    where
-      told : {b : Bool} → b ≡ true → IsTrue b
-      told e = subst IsTrue (sym e) tt
 
   -- there is room for it and all that it answers
   pub command_ready : (book : Book U u) (places : List ℕ) (command : Command)

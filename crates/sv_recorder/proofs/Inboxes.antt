@@ -1,4 +1,4 @@
--- Commands, taken byte by byte.
+-- A command that waits for its parameter.
 use Rattle.std.proofs.Common.{◌≡◌, ℕ, ◌+◌, ◌^◌, ◌<◌, ◌≤◌, Bool, true, false, List, [], ◌∷◌, ◌++◌, refl}
 use Rattle.std.proofs.Common.{sym, ap, ◌∙◌, subst, arith, rules, append-nil, append_assoc}
 use Rattle.std.specs.Prelude.{Option, Some, None, IfSome, IsNone, ◌↔◌, nat_lt, if◌then◌else◌}
@@ -8,6 +8,9 @@ use Rattle.sv_ring.specs.Looks.{Rose}
 use Rattle.sv_workload.specs.declared.load.Command.{Command}
 use Rattle.sv_recorder.specs.declared.inbox.Inbox.{Inbox}
 use Rattle.sv_recorder.specs.Commands.{Begins, Takes, command_bytes, found_bytes, IsWaiting}
+
+abbrev no_number : Option ℕ
+no_number = None
 
 -- a ring that gives no byte has none left
 pub none_left : (result : Option ℕ) (answered now : List ℕ) (asked asked_now : Option (List ℕ))
@@ -28,28 +31,10 @@ none_left None answered now asked asked_now empties empties_now gained same rose
     least : (n : ℕ) → n ≤ n
     least n = omega arith
 
-    by : (a : Option (List ℕ)) → IfSome a (λ bytes. IsNone {A = ℕ} None ↔ (answered ≡ bytes))
+    by : (a : Option (List ℕ)) → IfSome a (λ bytes. IsNone no_number ↔ (answered ≡ bytes))
         → IfSome a (λ bytes. now ≡ bytes)
     by None h = tt
-    by (Some bytes) h = gained ∙ append-nil answered ∙ h.0 tt
-
-lt_true : (m n : ℕ) → m < n → nat_lt m n ≡ true
-lt_true m n h = search (rules, h)
-
-lt_false : (m n : ℕ) → n ≤ m → nat_lt m n ≡ false
-lt_false m n h = search (rules, h)
-
--- the bytes of a command by its first
-short_bytes : (byte : ℕ) → byte < 128
-    → byte ∷ [] ≡ command_bytes (record { byte = byte; param = 0 }) ++ []
-short_bytes byte short = ap (λ (b : Bool). (if b then byte ∷ [] else byte ∷ 0 ∷ []) ++ [])
-    (sym (lt_true byte 128 short))
-
-long_bytes : (byte param : ℕ) → 128 ≤ byte
-    → byte ∷ param ∷ [] ≡ command_bytes (record { byte = byte; param = param }) ++ []
-long_bytes byte param long =
-    ap (λ (b : Bool). (if b then byte ∷ [] else byte ∷ param ∷ []) ++ [])
-    (sym (lt_false byte 128 long))
+    by (Some bytes) h = gained ∙ append-nil answered ∙ h.0 refl
 
 module _ {D : Type 0} (d : Ghosts D) where
   abbrev pub Beginning : Inbox D → Inbox D → Option ℕ → Type 0
@@ -71,70 +56,6 @@ module _ {D : Type 0} (d : Ghosts D) where
   no_byte old new result n none = none_left result (d.answered old) (d.answered new) (d.asked old)
       (d.asked new) (d.empties old) (d.empties new) n.answered n.asked n.empties n.all none
 
-  -- the byte that waited
-  pub begins_kept : (old new : Inbox D) (byte : ℕ) → old.kept ≡ Some byte → new.down ≡ old.down
-      → new.kept ≡ None → new.count ≡ old.count → Beginning old new (Some byte)
-  begins_kept old new byte kept down kept_now count = record {
-    ring_same = ap d.ring down;
-    asked_same = ap d.asked down;
-    taken = [];
-    gained = ap d.answered down ∙ sym (append-nil (d.answered old.down));
-    bytes = append-nil (given old.kept) ∙ ap given kept;
-    kept = kept_now;
-    count = count;
-    none = λ e. absurd (there e);
-  }
-    where
-      there : {b : ℕ} → Some b ≡ None → ⊥
-      there e = cc
-
-  -- or else the next one
-  pub begins_next : (old new : Inbox D) (found : Option ℕ) → old.kept ≡ None
-      → Nexts old.down new.down found → new.kept ≡ None → new.count ≡ old.count
-      → Beginning old new found
-  begins_next old new found kept n kept_now count = record {
-    ring_same = n.ring;
-    asked_same = n.asked;
-    taken = given found;
-    gained = n.answered;
-    bytes = ap (λ (k : Option ℕ). given k ++ given found) kept;
-    kept = kept_now;
-    count = count;
-    none = λ e. no_byte old.down new.down found n e;
-  }
-
-  pub takes_nothing : (old new : Inbox D) (first : Option ℕ) → Beginning old new first
-      → first ≡ None → Taking old new None
-  takes_nothing old new first b none = record {
-    ring_same = b.ring_same;
-    asked_same = b.asked_same;
-    taken = b.taken;
-    gained = b.gained;
-    bytes = b.bytes ∙ ap given none ∙ sym (ap given b.kept);
-    param = tt;
-    waits = subst (λ (k : Option ℕ). IsWaiting (given k)) (sym b.kept) tt;
-    none = λ e. b.none none;
-  }
-
-  pub takes_short : (old new : Inbox D) (first : Option ℕ) (byte : ℕ) → Beginning old new first
-      → first ≡ Some byte → byte < 128
-      → Taking old new (Some (record { byte = byte; param = 0 }))
-  takes_short old new first byte b some short = record {
-    ring_same = b.ring_same;
-    asked_same = b.asked_same;
-    taken = b.taken;
-    gained = b.gained;
-    bytes = b.bytes ∙ ap given some ∙ short_bytes byte short
-        ∙ sym (ap (λ (k : Option ℕ). command_bytes (record { byte = byte; param = 0 }) ++ given k)
-        b.kept);
-    param = λ below. refl;
-    waits = subst (λ (k : Option ℕ). IsWaiting (given k)) (sym b.kept) tt;
-    none = λ e. absurd (there e);
-  }
-    where
-      there : {c : Command} → Some c ≡ None → ⊥
-      there e = cc
-
   -- what waited and was taken, after one byte more
   after_next : (old mid new : Inbox D) (first result : Option ℕ) (byte : ℕ)
       (b : Beginning old mid first) → first ≡ Some byte → Nexts mid.down new.down result
@@ -147,28 +68,7 @@ module _ {D : Type 0} (d : Ghosts D) where
         ∙ ap (λ (bs : List ℕ). bs ++ given result) (b.bytes ∙ ap given some),
   )
 
-  pub takes_long : (old mid new : Inbox D) (first result : Option ℕ) (byte param : ℕ)
-      → Beginning old mid first → first ≡ Some byte → 128 ≤ byte
-      → Nexts mid.down new.down result → result ≡ Some param → new.kept ≡ None
-      → Taking old new (Some (record { byte = byte; param = param }))
-  takes_long old mid new first result byte param b some long n more kept =
-      let both = after_next old mid new first result byte b some n in
-      record {
-        ring_same = n.ring ∙ b.ring_same;
-        asked_same = n.asked ∙ b.asked_same;
-        taken = b.taken ++ given result;
-        gained = both.0;
-        bytes = both.1 ∙ ap (λ (r : Option ℕ). byte ∷ given r) more ∙ long_bytes byte param long
-            ∙ sym (ap (λ (k : Option ℕ). command_bytes
-            (record { byte = byte; param = param }) ++ given k) kept);
-        param = λ below. absurd (omega (arith, below, long));
-        waits = subst (λ (k : Option ℕ). IsWaiting (given k)) (sym kept) tt;
-        none = λ e. absurd (there e);
-      }
-    where
-      there : {c : Command} → Some c ≡ None → ⊥
-      there e = cc
-
+  -- a command whose parameter is not there yet
   pub takes_later : (old mid new : Inbox D) (first result : Option ℕ) (byte : ℕ)
       → Beginning old mid first → first ≡ Some byte → 128 ≤ byte
       → Nexts mid.down new.down result → result ≡ None → new.kept ≡ Some byte
@@ -183,5 +83,7 @@ module _ {D : Type 0} (d : Ghosts D) where
         bytes = both.1 ∙ ap (λ (r : Option ℕ). byte ∷ given r) none ∙ sym (ap given kept);
         param = tt;
         waits = subst (λ (k : Option ℕ). IsWaiting (given k)) (sym kept) (long, refl);
-        none = λ e. no_byte mid.down new.down result n none;
+        none = λ e. subst (λ (k : ℕ). Rose k (d.empties new.down)
+            × IfSome (d.asked new.down) (λ bytes. d.answered new.down ≡ bytes)) (b.some byte some)
+            (no_byte mid.down new.down result n none);
       }

@@ -261,18 +261,15 @@ module _ {U : Type 0} {u : Ghosts U} where
       there old new writer other apart more =
           omega (arith, more, ap {B = ℕ} (λ b. cond b 1 0) (ne_eqb writer other apart))
 
-  -- what the section added: the group of the step, and that of a command that was found
-  pub section_of : (old mid taken_book new : Book U u) (places : List ℕ) (writer place : ℕ)
-      (step : Step) (found : Option Command) (m a n b : ℕ)
+  -- what was added after the ticks of a step
+  pub section_goes : (old mid new : Book U u) (places : List ℕ) (writer place : ℕ) (step : Step)
+      (found : Option Command) (m a : ℕ)
       → IsAt old places writer place step → Advances step.advance old mid
-      → Goes (Call writer place ∷ []) m a mid taken_book
-      → Goes (command_head found) n b taken_book new
+      → Goes (Call writer place ∷ command_head found) m a mid new
       → (s : IsSection old.journal.items new.journal.items writer found)
       × AreFreed old.load.now (latest_first old.journal.items) s.more (u.way old.up)
       (u.freed old.up) (u.way new.up) (u.freed new.up)
-  section_of old mid taken_book new places writer place step found m a n b at ad first second =
-      let goes = goes-then mid taken_book new (Call writer place ∷ []) (command_head found) m n a b
-      first second in
+  section_goes old mid new places writer place step found m a at ad goes =
       let r = at.kept in
       let stream : u.sent mid.up ≡ stream_of mid.load.now mid.journal.items =
       rw (ad.load, ad.journal, ad.up) r.held.sent_is in
@@ -289,3 +286,17 @@ module _ {U : Type 0} {u : Ghosts U} where
         },
         rw (ad.load, ad.journal, ad.up) at moved,
       )
+
+  -- the group of the step, and that of a command that was found
+  pub section_of : (old mid taken_book new : Book U u) (places : List ℕ) (writer place : ℕ)
+      (step : Step) (found : Option Command) (m a n b : ℕ)
+      → IsAt old places writer place step → Advances step.advance old mid
+      → Goes (Call writer place ∷ []) m a mid taken_book
+      → Goes (command_head found) n b taken_book new
+      → (s : IsSection old.journal.items new.journal.items writer found)
+      × AreFreed old.load.now (latest_first old.journal.items) s.more (u.way old.up)
+      (u.freed old.up) (u.way new.up) (u.freed new.up)
+  section_of old mid taken_book new places writer place step found m a n b at ad first second =
+      section_goes old mid new places writer place step found (m + n) (a + b) at ad
+      (goes-then mid taken_book new (Call writer place ∷ []) (command_head found) m n a b first
+      second)

@@ -30,6 +30,7 @@ use Rattle.sv_recorder.specs.Replies.{GoesFor, IsReadyFor}
 use Rattle.sv_recorder.proofs.Commands.{command_here, command_ready, kept_inbox}
 use Rattle.sv_recorder.proofs.Goes.{goes-then}
 use Rattle.sv_recorder.proofs.Recorders.{IsAt, Keeping, section_of}
+use Rattle.sv_recorder.proofs.Views.{IsShown}
 
 -- an answer stays what it was while more is added
 pub gains_later : (old mid new more : List Item) (origin : Origin) (outcome : Outcome)
@@ -44,6 +45,26 @@ gains_later old mid new more origin outcome g grown = record {
   origin_is = g.origin_is;
   outcome_is = g.outcome_is;
 }
+
+abbrev SectionOf : Recording → Recording → ℕ → Type 0
+SectionOf view now writer = (found : Option Command)
+    × (s : IsSection view.items now.items writer found)
+    × AreFreed view.load (latest_first view.items) s.more view.way view.freed now.way now.freed
+    × IsAsked view now found
+
+module _ {D : Type 0} (d : down_reader.Ghosts D) where
+  abbrev pub Asking : ℕ → Inbox D → Inbox D → Option Command → Type 0
+  Asking most inbox now found = Asks d.ring d.answered d.empties d.asked most inbox now found
+
+  -- the names of the ring and what was sent by it stay
+  pub asks_same : (inbox now : Inbox D) (most : ℕ) (found : Option Command)
+      → Asking most inbox now found
+      → (d.ring now.down ≡ d.ring inbox.down) × (d.asked now.down ≡ d.asked inbox.down)
+  asks_same inbox now most found (inl none) = (
+    ap (λ (i : Inbox D). d.ring i.down) none.2,
+    ap (λ (i : Inbox D). d.asked i.down) none.2,
+  )
+  asks_same inbox now most found (inr some) = (some.1.ring_same, some.1.asked_same)
 
 module _ {U : Type 0} {u : Ghosts U} {D : Type 0} (d : down_reader.Ghosts D) where
   -- what contracts see of a book and an inbox
@@ -64,12 +85,16 @@ module _ {U : Type 0} {u : Ghosts U} {D : Type 0} (d : down_reader.Ghosts D) whe
     kept = given inbox.kept;
   }
 
-  abbrev pub Asking : ℕ → Inbox D → Inbox D → Option Command → Type 0
-  Asking most inbox now found = Asks d.ring d.answered d.empties d.asked most inbox now found
+  pub is_shown : (book : Book U u) (inbox : Inbox D) (view : Recording) → Shown book inbox ≡ view
+      → IsShown book view
+  is_shown book inbox view is = (
+    ap (λ (v : Recording). v.load) is,
+    ap (λ (v : Recording). v.items) is,
+  )
 
   -- what a section asked of the host
   pub asked_of : (old new : Book U u) (inbox now : Inbox D) (most : ℕ) (found : Option Command)
-      → Asking most inbox now found → most ≡ length old.load.now.commands
+      → Asking d most inbox now found → most ≡ length old.load.now.commands
       → inbox.count ≡ count_by (λ i. is_command i.origin) old.journal.items
       → IsAsked (Shown old inbox) (Shown new now) found
   asked_of old new inbox now most found (inl none) is count =
@@ -107,7 +132,7 @@ module _ {U : Type 0} {u : Ghosts U} {D : Type 0} (d : down_reader.Ghosts D) whe
   -- a command that was found may come
   pub found_here : (old mid new : Book U u) (inbox now : Inbox D) (writer place m a most : ℕ)
       (found : Option Command)
-      → Asking most inbox now found → most ≡ length old.load.now.commands
+      → Asking d most inbox now found → most ≡ length old.load.now.commands
       → inbox.count ≡ count_by (λ i. is_command i.origin) old.journal.items
       → mid.journal ≡ old.journal → mid.load.now ≡ old.load.now
       → Goes (origins.Call writer place ∷ []) m a mid new
@@ -122,16 +147,6 @@ module _ {U : Type 0} {u : Ghosts U} {D : Type 0} (d : down_reader.Ghosts D) whe
   found_here old mid new inbox now writer place m a most (Some command) (inr some) is count journal
       load goes = command_here old mid new writer place m a inbox.count command journal load goes
       count (omega (arith, some.0, is)) some.1.param
-
-  -- and there is room for it
-  pub found_ready : (book : Book U u) (places : List ℕ) (found : Option Command)
-      → Keeping book places
-      → IfSome found (λ command. IsHeadHere book.load.now book.journal.items
-      (origins.Command command.byte command.param))
-      → IfSome found (λ command. IsReadyFor
-      (group_of book.load.now (origins.Command command.byte command.param)) book)
-  found_ready book places None r here = tt
-  found_ready book places (Some command) r here = command_ready book places command r here
 
   -- what is kept of the host's commands
   pub inbox_kept : (old mid taken_book new : Book U u) (inbox now : Inbox D)
@@ -152,18 +167,12 @@ module _ {U : Type 0} {u : Ghosts U} {D : Type 0} (d : down_reader.Ghosts D) whe
       (given inbox.kept) (d.answered now.down) (given now.kept) asked.taken inbox.count now.count k
       goes.headed asked.answered asked.bytes counted waits)
 
-  abbrev SectionOf : Recording → Recording → ℕ → Type 0
-  SectionOf view now writer = (found : Option Command)
-      × (s : IsSection view.items now.items writer found)
-      × AreFreed view.load (latest_first view.items) s.more view.way view.freed now.way now.freed
-      × IsAsked view now found
-
   pub section_shown : (old mid taken_book new : Book U u) (inbox now : Inbox D) (places : List ℕ)
       (writer place most : ℕ) (step : Step) (found : Option Command) (view : Recording)
       → Shown old inbox ≡ view → IsAt old places writer place step → Advances step.advance old mid
       → GoesFor (origins.Call writer place ∷ [])
       (group_of mid.load.now (origins.Call writer place)) mid taken_book
-      → Obeys found taken_book new → Asking most inbox now found
+      → Obeys found taken_book new → Asking d most inbox now found
       → most ≡ length old.load.now.commands
       → inbox.count ≡ count_by (λ i. is_command i.origin) old.journal.items
       → SectionOf view (Shown new now) writer
@@ -176,17 +185,17 @@ module _ {U : Type 0} {u : Ghosts U} {D : Type 0} (d : down_reader.Ghosts D) whe
       subst (λ (v : Recording). SectionOf v (Shown new now) writer) is
       (found, s.0, s.1, asked_of old new inbox now most found asks most_is count)
 
-  -- the names of the ring and what was sent by it stay
-  pub asks_same : (inbox now : Inbox D) (most : ℕ) (found : Option Command)
-      → Asking most inbox now found
-      → (d.ring now.down ≡ d.ring inbox.down) × (d.asked now.down ≡ d.asked inbox.down)
-  asks_same inbox now most found (inl none) = (
-    ap (λ (i : Inbox D). d.ring i.down) none.2,
-    ap (λ (i : Inbox D). d.asked i.down) none.2,
-  )
-  asks_same inbox now most found (inr some) = (some.1.ring_same, some.1.asked_same)
-
 module _ {U : Type 0} {u : Ghosts U} where
+  -- there is room for a command that was found
+  pub found_ready : (book : Book U u) (places : List ℕ) (found : Option Command)
+      → Keeping book places
+      → IfSome found (λ command. IsHeadHere book.load.now book.journal.items
+      (origins.Command command.byte command.param))
+      → IfSome found (λ command. IsReadyFor
+      (group_of book.load.now (origins.Command command.byte command.param)) book)
+  found_ready book places None r here = tt
+  found_ready book places (Some command) r here = command_ready book places command r here
+
   -- the answer is what became of the step's call
   pub answer_stays : (load : Load) (items : List Item) (mid new : Book U u)
       (found : Option Command) (origin : Origin) (answer : Answer)

@@ -42,6 +42,7 @@ pub record Begins {D : Type 0} (ring : D → List (List ℕ)) (answered : D → 
   pub bytes : given old.kept ++ taken ≡ given found
   pub kept : new.kept ≡ None
   pub count : new.count ≡ old.count
+  pub some : (byte : ℕ) → found ≡ Some byte → empties new.down ≡ empties old.down
   pub none : found ≡ None → Rose (empties old.down) (empties new.down)
       × IfSome (asked new.down) (λ bytes. answered new.down ≡ bytes)
 

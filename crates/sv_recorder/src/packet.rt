@@ -177,12 +177,7 @@ impl<'w, U: UpWriter + Drop> Book<'w, U> {
 
     /// Records a packet while nothing is pending.
     #[inline(always)]
-    fn write_plain<P: Describes>(
-        &mut self,
-        origin: Origin,
-        desc: &P,
-        block: &mut Buf,
-    ) -> Outcome
+    fn write_plain<P: Describes>(&mut self, origin: Origin, desc: &P, block: &mut Buf) -> Outcome
         requires packet { HasPacket self.old.load.now origin }
         requires over { IsOver P.kept P.lines P.clock self.old.load.now desc.now }
         requires ready { IsReady 2 (packet_bytes self.old.load.now origin)
@@ -234,12 +229,7 @@ impl<'w, U: UpWriter + Drop> Book<'w, U> {
 
     /// Records a packet, which is formed in the block: ignores it while the recorder is off.
     #[inline(always)]
-    pub fn packet<P: Describes>(
-        &mut self,
-        origin: Origin,
-        desc: &P,
-        block: &mut Buf,
-    ) -> Outcome
+    pub fn packet<P: Describes>(&mut self, origin: Origin, desc: &P, block: &mut Buf) -> Outcome
         requires packet { HasPacket self.old.load.now origin }
         requires over { IsOver P.kept P.lines P.clock self.old.load.now desc.now }
         requires ready { IsReady 2 (packet_bytes self.old.load.now origin)

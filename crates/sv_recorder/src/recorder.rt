@@ -47,8 +47,7 @@ pub struct Recorder<'w, U: UpWriter + Drop, D: DownReader + Drop, P: Describes +
 }
 
 impl<'w, U: UpWriter + Drop, D: DownReader + Drop, P: Describes + Drop> Model
-    for Recorder<'w, U, D, P>
-{
+    for Recorder<'w, U, D, P> {
     ghost use Rattle.sv_recorder.specs.Recording.{Recording, IsRecorder, IsInbox};
     ghost use Rattle.sv_recorder.specs.Tells.{IsOver};
     ghost use Rattle.sv_ring.specs.Down.{given};
@@ -236,7 +235,9 @@ impl<'w, U: UpWriter + Drop, D: DownReader + Drop, P: Describes + Drop> Recorder
         }
         let step = &steps[place as usize];
         self.book.advance(step.advance);
-        let answer = self.book.take(writer, place, step, &self.desc, &mut self.block);
+        let answer = self
+            .book
+            .take(writer, place, step, &self.desc, &mut self.block);
         self.places[writer as usize] = place + 1;
         let found = self.inbox.next(load.commands().len() as u32);
         self.book.obey(found, &self.desc, &mut self.block);

@@ -69,13 +69,7 @@ impl<'w, U: UpWriter + Drop> Book<'w, U> {
 
     /// A step that records an event.
     #[inline(always)]
-    fn event<P: Describes>(
-        &mut self,
-        writer: u32,
-        step: u32,
-        desc: &P,
-        block: &mut Buf,
-    ) -> Answer
+    fn event<P: Describes>(&mut self, writer: u32, step: u32, desc: &P, block: &mut Buf) -> Answer
         requires formed { IsFormed self.old.load.now (Call writer step) }
         requires over { IsOver P.kept P.lines P.clock self.old.load.now desc.now }
         requires ready { IsReadyFor (group_of self.old.load.now (Call writer step)) self.old }

@@ -230,7 +230,10 @@ fn waits_for_a_parameter(rt: HostRuntime) -> Result<(), Fail> {
     let (done, counts) = talk(alloc, &load, desc, [128, 0])?;
     assert_eq!(rt; counts, [6, 7, 10]);
     let command = Item {
-        origin: Origin::Command { byte: 128, param: 0 },
+        origin: Origin::Command {
+            byte: 128,
+            param: 0,
+        },
         moment: 2,
         freed: 0,
         outcome: Outcome::Handled,

@@ -7,7 +7,6 @@ use Rattle.sv_recorder.proofs.book.Book.answer.Goals as goal
 pub returns-in_default : goal.returns-in_default
 returns-in_default g c =
     let old = c.args.self.now in
-    let not = c.in_default.in_default-own.rest in
     subst (λ os. Gives os old old) (sym (no_answers old.load.now c.args.command.byte
-    c.args.command.param not.0.0.0.0.0.1 not.0.0.0.0.1 not.0.0.0.1 not.0.0.1 not.0.1 not.1))
+    c.args.command.param (search) (search) (search) (search) (search) (search)))
     (gives-none old)

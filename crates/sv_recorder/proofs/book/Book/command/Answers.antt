@@ -1,4 +1,4 @@
-use Rattle.std.proofs.Common.{subst}
+use Rattle.std.proofs.Common.{◌≢◌, subst}
 use Rattle.sv_journal.specs.declared.journal.Origin.TheVariants.{Command}
 use Rattle.sv_journal.specs.Legal.{command_answers}
 use Rattle.sv_recorder.specs.Replies.{Gives}
@@ -12,8 +12,9 @@ returns-in_default-clause-kept g c =
     let load = old.load.now in
     let byte = c.args.command.byte in
     let param = c.args.command.param in
-    let not = c.in_default.in_default-own.rest in
-    let owes = command_owes load byte param not.0.1 not.1 in
+    let no_start : byte ≢ 1 = search in
+    let no_stop : byte ≢ 2 = search in
+    let owes = command_owes load byte param no_start no_stop in
     owes-gives old c.handle.new.self c.answer.new.self (Command byte param)
     (command_answers load byte param) c.handle.ensures
     (subst (λ l. Gives (command_answers l byte param) c.handle.new.self c.answer.new.self)
@@ -25,8 +26,9 @@ returns-in_default-clause-goes g c =
     let load = old.load.now in
     let byte = c.args.command.byte in
     let param = c.args.command.param in
-    let not = c.in_default.in_default-own.rest in
-    let owes = command_owes load byte param not.0.1 not.1 in
+    let no_start : byte ≢ 1 = search in
+    let no_stop : byte ≢ 2 = search in
+    let owes = command_owes load byte param no_start no_stop in
     let gives = subst (λ l. Gives (command_answers l byte param) c.handle.new.self
     c.answer.new.self) c.handle.ensures.goes.load c.answer.ensures in
     owes-goes old c.handle.new.self c.answer.new.self (Command byte param)

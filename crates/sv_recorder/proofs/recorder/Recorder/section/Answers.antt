@@ -13,7 +13,8 @@ use Rattle.sv_recorder.proofs.recorder.Recorder.section.Goals as goal
 pub bounds-steps-place : goal.bounds-steps-place
 bounds-steps-place g c =
     let old = c.self.inside.book in
-    let is = (ap (λ v. v.load) c.self.view_is, ap (λ v. v.items) c.self.view_is) in
+    let is = sections.is_shown g.D.DownReader old c.self.inside.inbox c.args.self.now
+    c.self.view_is in
     let there = views.shown_writer old c.args.writer c.args.self.now is c.requires.writer in
     let most = views.within_script old c.self.inside.places c.args.writer _ c.self.invariant.0 there
     refl in
@@ -22,7 +23,8 @@ bounds-steps-place g c =
 pub advance-requires : goal.advance-requires
 advance-requires g c =
     let old = c.self.inside.book in
-    let is = (ap (λ v. v.load) c.self.view_is, ap (λ v. v.items) c.self.view_is) in
+    let is = sections.is_shown g.D.DownReader old c.self.inside.inbox c.args.self.now
+    c.self.view_is in
     let there = views.shown_writer old c.args.writer c.args.self.now is c.requires.writer in
     let at = views.at_step old c.self.inside.places c.args.writer _ c.steps-steps.result.now
     c.index-steps-place.result c.self.invariant.0 there refl c.steps-steps.ensures.told
@@ -36,7 +38,8 @@ advance-requires g c =
 pub take-answer-requires-clause-step : goal.take-answer-requires-clause-step
 take-answer-requires-clause-step g c =
     let old = c.self.inside.book in
-    let is = (ap (λ v. v.load) c.self.view_is, ap (λ v. v.items) c.self.view_is) in
+    let is = sections.is_shown g.D.DownReader old c.self.inside.inbox c.args.self.now
+    c.self.view_is in
     let there = views.shown_writer old c.args.writer c.args.self.now is c.requires.writer in
     let at = views.at_step old c.self.inside.places c.args.writer _ c.steps-steps.result.now
     c.index-steps-place.result c.self.invariant.0 there refl c.steps-steps.ensures.told
@@ -47,7 +50,8 @@ take-answer-requires-clause-step g c =
 pub take-answer-requires-clause-act : goal.take-answer-requires-clause-act
 take-answer-requires-clause-act g c =
     let old = c.self.inside.book in
-    let is = (ap (λ v. v.load) c.self.view_is, ap (λ v. v.items) c.self.view_is) in
+    let is = sections.is_shown g.D.DownReader old c.self.inside.inbox c.args.self.now
+    c.self.view_is in
     let there = views.shown_writer old c.args.writer c.args.self.now is c.requires.writer in
     let most = views.within_script old c.self.inside.places c.args.writer _ c.self.invariant.0 there
     refl in
@@ -60,7 +64,8 @@ take-answer-requires-clause-act g c =
 pub take-answer-requires-clause-ready : goal.take-answer-requires-clause-ready
 take-answer-requires-clause-ready g c =
     let old = c.self.inside.book in
-    let is = (ap (λ v. v.load) c.self.view_is, ap (λ v. v.items) c.self.view_is) in
+    let is = sections.is_shown g.D.DownReader old c.self.inside.inbox c.args.self.now
+    c.self.view_is in
     let there = views.shown_writer old c.args.writer c.args.self.now is c.requires.writer in
     let at = views.at_step old c.self.inside.places c.args.writer _ c.steps-steps.result.now
     c.index-steps-place.result c.self.invariant.0 there refl c.steps-steps.ensures.told
@@ -71,7 +76,8 @@ take-answer-requires-clause-ready g c =
 pub overflow_add-self : goal.overflow_add-self
 overflow_add-self g c =
     let old = c.self.inside.book in
-    let is = (ap (λ v. v.load) c.self.view_is, ap (λ v. v.items) c.self.view_is) in
+    let is = sections.is_shown g.D.DownReader old c.self.inside.inbox c.args.self.now
+    c.self.view_is in
     let there = views.shown_writer old c.args.writer c.args.self.now is c.requires.writer in
     let most = views.within_script old c.self.inside.places c.args.writer _ c.self.invariant.0 there
     refl in
@@ -82,7 +88,8 @@ overflow_add-self g c =
 pub obey-requires-clause-ready : goal.obey-requires-clause-ready
 obey-requires-clause-ready g c =
     let old = c.self.inside.book in
-    let is = (ap (λ v. v.load) c.self.view_is, ap (λ v. v.items) c.self.view_is) in
+    let is = sections.is_shown g.D.DownReader old c.self.inside.inbox c.args.self.now
+    c.self.view_is in
     let there = views.shown_writer old c.args.writer c.args.self.now is c.requires.writer in
     let at = views.at_step old c.self.inside.places c.args.writer _ c.steps-steps.result.now
     c.index-steps-place.result c.self.invariant.0 there refl c.steps-steps.ensures.told
@@ -104,7 +111,8 @@ obey-requires-clause-ready g c =
 pub invariant_of-self : goal.invariant_of-self
 invariant_of-self g c =
     let old = c.self.inside.book in
-    let is = (ap (λ v. v.load) c.self.view_is, ap (λ v. v.items) c.self.view_is) in
+    let is = sections.is_shown g.D.DownReader old c.self.inside.inbox c.args.self.now
+    c.self.view_is in
     let there = views.shown_writer old c.args.writer c.args.self.now is c.requires.writer in
     let at = views.at_step old c.self.inside.places c.args.writer _ c.steps-steps.result.now
     c.index-steps-place.result c.self.invariant.0 there refl c.steps-steps.ensures.told
@@ -138,7 +146,8 @@ invariant_of-self g c =
 pub returns-clause-section : goal.returns-clause-section
 returns-clause-section g c =
     let old = c.self.inside.book in
-    let is = (ap (λ v. v.load) c.self.view_is, ap (λ v. v.items) c.self.view_is) in
+    let is = sections.is_shown g.D.DownReader old c.self.inside.inbox c.args.self.now
+    c.self.view_is in
     let there = views.shown_writer old c.args.writer c.args.self.now is c.requires.writer in
     let at = views.at_step old c.self.inside.places c.args.writer _ c.steps-steps.result.now
     c.index-steps-place.result c.self.invariant.0 there refl c.steps-steps.ensures.told
@@ -152,7 +161,8 @@ returns-clause-section g c =
 pub returns-clause-answered : goal.returns-clause-answered
 returns-clause-answered g c =
     let old = c.self.inside.book in
-    let is = (ap (λ v. v.load) c.self.view_is, ap (λ v. v.items) c.self.view_is) in
+    let is = sections.is_shown g.D.DownReader old c.self.inside.inbox c.args.self.now
+    c.self.view_is in
     let there = views.shown_writer old c.args.writer c.args.self.now is c.requires.writer in
     let at = views.at_step old c.self.inside.places c.args.writer _ c.steps-steps.result.now
     c.index-steps-place.result c.self.invariant.0 there refl c.steps-steps.ensures.told

@@ -11,8 +11,9 @@ use Rattle.sv_packet.specs.Spelling.{spelling_of}
 use Rattle.sv_workload.specs.declared.load.Act.{Act}
 use Rattle.sv_workload.specs.declared.load.Act.TheVariants as acts
 use Rattle.sv_workload.specs.declared.load.Task.{Task}
-use Rattle.sv_workload.specs.declared.load.ModuleRow.{ModuleRow}
-use Rattle.sv_workload.specs.Load.{Load, act_of, period, offset_after}
+use Rattle.sv_desc.specs.Modules.{ModuleRow, offset_after}
+use Rattle.sv_desc.specs.Says.{micros_at}
+use Rattle.sv_workload.specs.Load.{Load, act_of, period}
 use Rattle.sv_workload.specs.Need.{is_start_act, is_stop_act}
 use Rattle.sv_journal.specs.declared.journal.Kind.{Kind}
 use Rattle.sv_journal.specs.declared.journal.Kind.TheVariants as kinds
@@ -126,14 +127,11 @@ is_written earlier item =
 
 -- EVENTS AND BLOCKS
 
--- microseconds at a moment
-abbrev pub micros_at : Load → ℕ → ℕ
-micros_at load moment = ((moment * 1000000) / load.clock) % 2 ^ 64
-
 abbrev pub system_time : Load → ℕ → Event
 system_time load moment =
     if load.timed
-    then events.SystimeUs (micros_at load moment % 2 ^ 32) (micros_at load moment / 2 ^ 32)
+    then events.SystimeUs (micros_at load.clock moment % 2 ^ 32)
+    (micros_at load.clock moment / 2 ^ 32)
     else events.SystimeCycles (moment % period load)
 
 abbrev pub task_info : Load → Task → Event

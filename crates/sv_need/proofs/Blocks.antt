@@ -17,11 +17,12 @@ use Rattle.sv_packet.specs.Spelling.{short_spelling, head_spelling, spelling_of,
 use Rattle.sv_packet.specs.Spelling.{fields_spelling}
 use Rattle.sv_packet.proofs.Shared.{plain_small}
 use Rattle.sv_workload.specs.declared.load.Task.{Task}
-use Rattle.sv_workload.specs.declared.load.ModuleRow.{ModuleRow}
+use Rattle.sv_desc.specs.Modules.{ModuleRow}
 use Rattle.sv_workload.specs.Load.{Load}
 use Rattle.sv_journal.specs.declared.journal.Kind.{Kind}
 use Rattle.sv_journal.specs.declared.journal.Kind.TheVariants as kinds
-use Rattle.sv_journal.specs.Items.{reply_event, system_time, micros_at, task_info, stack_info}
+use Rattle.sv_journal.specs.Items.{reply_event, system_time, task_info, stack_info}
+use Rattle.sv_desc.specs.Says.{micros_at}
 use Rattle.sv_journal.specs.Items.{module_desc}
 use Rattle.sv_workload.specs.Need.{HasShortTexts}
 
@@ -208,13 +209,13 @@ module-at load index delta (Some row) short is =
 
 time_small : (load : Load) (moment delta : ℕ) → IsSmall delta (system_time load moment)
 time_small load moment delta = elim load.timed as
-    (λ b. IsSmall delta (cond b (events.SystimeUs (micros_at load moment % 2 ^ 32)
-    (micros_at load moment / 2 ^ 32)) (events.SystimeCycles (moment % 2 ^ 32)))) [
+    (λ b. IsSmall delta (cond b (events.SystimeUs (micros_at load.clock moment % 2 ^ 32)
+    (micros_at load.clock moment / 2 ^ 32)) (events.SystimeCycles (moment % 2 ^ 32)))) [
       | true ↦ omega (
         arith,
-        numbers_small (events.SystimeUs (micros_at load moment % 2 ^ 32)
-            (micros_at load moment / 2 ^ 32)) delta ((micros_at load moment % 2 ^ 32)
-            ∷ (micros_at load moment / 2 ^ 32) ∷ []) refl (omega arith),
+        numbers_small (events.SystimeUs (micros_at load.clock moment % 2 ^ 32)
+            (micros_at load.clock moment / 2 ^ 32)) delta ((micros_at load.clock moment % 2 ^ 32)
+            ∷ (micros_at load.clock moment / 2 ^ 32) ∷ []) refl (omega arith),
       )
       | false ↦ omega (
         arith,

@@ -1,8 +1,8 @@
 -- The books of the groups of a step.
-use Rattle.std.proofs.Common.{◌≡◌, ℕ, ◌+◌, ◌*◌, ◌<◌, Bool, true, false, not, ◌&&◌, List, []}
+use Rattle.std.proofs.Common.{◌≡◌, ℕ, ◌+◌, ◌*◌, ◌<◌, Bool, true, false, not, ◌&&◌, ◌||◌, List, []}
 use Rattle.std.proofs.Common.{◌∷◌, ◌++◌, length, drop, refl, sym, ap, ◌∙◌, subst, arith, replicate}
 use Rattle.std.proofs.Common.{vec_capacity, inr, append-nil}
-use Rattle.std.specs.Prelude.{Some}
+use Rattle.std.specs.Prelude.{Option, Some}
 use Rattle.sv_ring.specs.declared.up_writer.UpWriter.{Ghosts}
 use Rattle.sv_workload.specs.declared.load.Act.{Act}
 use Rattle.sv_workload.specs.declared.load.Act.TheVariants as acts
@@ -17,28 +17,25 @@ use Rattle.sv_journal.specs.declared.journal.Origin.TheVariants.{Call, Sync, Rep
 use Rattle.sv_journal.specs.declared.journal.Outcome.TheVariants.{Handled}
 use Rattle.sv_journal.specs.declared.journal.Item.{Item}
 use Rattle.sv_journal.specs.Items.{latest_first, last_moment, is_stored, is_stop_reply}
-use Rattle.sv_journal.specs.Items.{is_after_refused_overflow}
-use Rattle.sv_journal.specs.Legal.{IsNextStep, ticks_of, is_control, start_answers}
+use Rattle.sv_journal.specs.Items.{is_after_refused_overflow, is_start}
+use Rattle.sv_journal.specs.Legal.{answers_of, group_of, ticks_of, is_control}
 use Rattle.sv_recorder.specs.Kept.{Keeps}
 use Rattle.sv_journal.specs.Clock.{clock_of}
-use Rattle.sv_recorder.specs.Replies.{Gives}
+use Rattle.sv_need.specs.Weights.{items_ahead, bytes_ahead}
+use Rattle.sv_workload.specs.declared.load.Command.{Command}
+use Rattle.sv_journal.specs.declared.journal.Origin.TheVariants as origins
+use Rattle.sv_recorder.specs.Heads.{IsHeadDue, KeepsHead, Obeys, Owes}
+use Rattle.sv_recorder.specs.Replies.{Gives, GoesFor, IsReadyFor}
 use Rattle.sv_recorder.specs.Writes.{Writes, MovesBy, made, outcome_if, IsPacketHere}
-use Rattle.sv_recorder.specs.Book.{Holds, HoldsAs, Stays, Goes}
-use Rattle.sv_recorder.proofs.Entries.{stored_length}
+use Rattle.sv_recorder.specs.Book.{Holds, HoldsAs, IsReady, Stays, Goes}
+use Rattle.sv_recorder.proofs.Entries.{headed_one, stored_length}
 use Rattle.sv_recorder.proofs.Moves.{write-moved}
 use Rattle.sv_journal.proofs.Shared.{latest_first-push, last_moment-other}
-use Rattle.sv_recorder.proofs.Goes.{clock-goes}
-use Rattle.sv_recorder.proofs.Groups.{handled, synced, reply_here, start_owes, stop_owes}
-use Rattle.sv_recorder.proofs.Groups.{event_owes}
-
--- the recorder is switched on, and the rest is as before
-pub record SwitchesOn {U : Type 0} {u : Ghosts U} (old new : Book U u) : Type 0 where
-  pub load : new.load.now ≡ old.load.now
-  pub up : new.up ≡ old.up
-  pub journal : new.journal ≡ old.journal
-  pub pending : new.pending ≡ old.pending
-  pub last : new.last ≡ old.last
-  pub on_is : new.on ≡ true
+use Rattle.sv_recorder.proofs.Goes.{clock-goes, goes-less, goes-note, goes-then, goes-to}
+use Rattle.sv_recorder.proofs.Giving.{ready-goes}
+use Rattle.sv_recorder.proofs.Groups.{handled, synced, reply_here, control_ahead, control_head}
+use Rattle.sv_recorder.proofs.Groups.{event_owes, handled_unwritten, head_alone}
+use Rattle.sv_recorder.proofs.Groups.{head_no_overflow}
 
 module _ {U : Type 0} {u : Ghosts U} where
   pub sync-goes : (old new : Book U u) (stored : Bool)
@@ -109,94 +106,144 @@ module _ {U : Type 0} {u : Ghosts U} where
       let last : new.last ≡ old.last = written.last in
       rw (load, new_on, pending, last) kept
 
-  -- a start
-  pub start-holds : (old noted opened new : Book U u) (writer step : ℕ)
-      → Stays old noted → noted.up ≡ old.up → SwitchesOn noted opened
-      → noted.journal.items ≡ old.journal.items ++ made (Call writer step) old.moment
-      (u.freed old.up) Handled ∷ []
-      → act_of old.load.now writer step ≡ Some acts.Start
-      → Gives (start_answers opened.load.now) opened new
-      → Goes (Call writer step ∷ []) 1 0 old opened
-      → Holds old [] → IsNextStep old.load.now (latest_first old.journal.items) (Call writer step)
-      → old.moment ≡ ticks_of old.load.now (Call writer step) + clock_of old.load.now
-      old.journal.items
-      → Holds new []
-  start-holds old noted opened new writer step changed up on item act gives head_goes k next clock =
+  -- a start, a stop or a command is noted
+  pub noted-holds : (old noted : Book U u) (head : Origin) (on : Bool)
+      → Stays old noted → noted.up ≡ old.up
+      → noted.journal.items ≡ old.journal.items ++ made head old.moment (u.freed old.up) Handled
+      ∷ []
+      → is_control old.load.now head ≡ true → on ≡ (is_start old.load.now head || old.on)
+      → IsHeadDue head old → HoldsAs on noted (answers_of old.load.now head)
+  noted-holds old noted head on stays up item control on_is due =
       let load = old.load.now in
-      let owes = start_owes load writer step act in
-      let control : is_control load (Call writer step) ≡ true = rw owes.1 refl in
       let kept = handled load old.journal.items (u.sent old.up) (u.freed old.up) old.on
-      old.pending old.last writer step old.moment k control next clock in
-      let kept2 : Keeps load noted.journal.items (start_answers load) (u.sent old.up)
-      (u.freed old.up) true old.pending old.last =
-      subst (λ (is : List Item). Keeps load is (start_answers load) (u.sent old.up)
-      (u.freed old.up) true old.pending old.last) (sym item)
-      (rw (owes.0, owes.1) at kept) in
-      let load_is : opened.load.now ≡ load = on.load ∙ changed.load in
-      let all : start_answers opened.load.now ++ [] ≡ start_answers load =
-      append-nil (start_answers opened.load.now) ∙ ap start_answers load_is in
-      let held : Holds opened (start_answers load) =
-      rw (
-        on.load,
-        on.journal,
-        on.up,
-        on.on_is,
-        on.pending,
-        on.last,
-        changed.load,
-        up,
-        changed.pending,
-        changed.last,
-      ) kept2 in
-      let clock1 : opened.moment ≡ clock_of opened.load.now opened.journal.items =
-      head_goes.moment ∙ clock ∙ sym (clock-goes old opened (Call writer step ∷ []) 1 0 head_goes
-      ∙ one_head (clock_of load old.journal.items) (ticks_of load (Call writer step))) in
-      gives.kept [] (subst (Holds opened) (sym all) held) clock1
+      old.pending old.last head old.moment due.held control due.here due.clock in
+      let there : Keeps load noted.journal.items (answers_of load head) (u.sent old.up)
+      (u.freed old.up) on old.pending old.last =
+      rw on_is (subst (λ (is : List Item). Keeps load is (answers_of load head) (u.sent old.up)
+      (u.freed old.up) (is_start load head || old.on) old.pending old.last) (sym item) kept) in
+      let at : noted.load.now ≡ load = stays.load in
+      let pending : noted.pending ≡ old.pending = stays.pending in
+      let last : noted.last ≡ old.last = stays.last in
+      rw (at, up, pending, last) there
+
+  -- and takes nothing from the ring
+  pub noted-goes : (old noted new : Book U u) (head : Origin) → Stays old noted
+      → noted.up ≡ old.up
+      → noted.journal.items ≡ old.journal.items ++ made head old.moment (u.freed old.up) Handled
+      ∷ []
+      → is_control old.load.now head ≡ true
+      → new.load.now ≡ noted.load.now → new.moment ≡ noted.moment → new.up ≡ noted.up
+      → new.journal ≡ noted.journal → new.last ≡ noted.last → new.pending ≡ noted.pending
+      → Goes (head ∷ []) 1 0 old new
+  noted-goes old noted new head stays up item control load moment up_now journal last pending =
+      let is = control_head old.load.now head control in
+      let one = goes-note old noted head Handled stays up stays.capacity item
+      (headed_one head old.moment (u.freed old.up) Handled) refl (head_no_overflow head is)
+      (handled_unwritten (latest_first old.journal.items) head old.moment (u.freed old.up) is) in
+      goes-to old noted new (head ∷ []) 1 0
+      (subst (λ (os : List Origin). Goes os 1 0 old noted) (head_alone head is) one) load moment
+      up_now journal last (omega (arith, pending, stays.pending))
+
+  -- the clock goes on by the head
+  pub clock-owes : (old mid : Book U u) (head : Origin) → Owes head old mid → IsHeadDue head old
+      → mid.moment ≡ clock_of mid.load.now mid.journal.items
+  clock-owes old mid head owes due = owes.goes.moment ∙ due.clock
+      ∙ sym (clock-goes old mid (head ∷ []) 1 0 owes.goes
+      ∙ one_head (clock_of old.load.now old.journal.items) (ticks_of old.load.now head))
     where
       one_head : (n m : ℕ) → n + (0 + m) ≡ m + n
       one_head n m = omega arith
+
+  -- the answers that are owed after a head are given
+  pub owes-gives : (old mid new : Book U u) (head : Origin) (os : List Origin) → Owes head old mid
+      → Gives os mid new → answers_of old.load.now head ≡ os → KeepsHead head old new
+  owes-gives old mid new head os owes gives are = λ due.
+      let held = subst (Holds mid) (are ∙ sym (append-nil os)) (owes.kept due) in
+      gives.kept [] held (clock-owes old mid head owes due)
+
+  -- there is room for them
+  pub owes-ready : (old mid : Book U u) (head : Origin) (os : List Origin)
+      → is_control old.load.now head ≡ true → answers_of old.load.now head ≡ os
+      → IsReadyFor (group_of old.load.now head) old → Owes head old mid → IsReadyFor os mid
+  owes-ready old mid head os control are ready owes =
+      let load = old.load.now in
+      let most = control_ahead load head os control are in
+      let both : IsReady (1 + items_ahead load os) (0 + bytes_ahead load os) old = record {
+        room = omega (arith, ready.room, most.0);
+        within = omega (arith, ready.within, most.1);
+        few = omega (arith, ready.few, most.0);
+      } in
+      subst (λ l. IsReady (items_ahead l os) (bytes_ahead l os) mid) (sym owes.goes.load)
+      (ready-goes old mid (head ∷ []) 1 (items_ahead load os) 0 (bytes_ahead load os) both
+      owes.goes)
+
+  pub one_ready : (old : Book U u) (head : Origin) → is_control old.load.now head ≡ true
+      → IsReadyFor (group_of old.load.now head) old → IsReady 1 0 old
+  one_ready old head control ready =
+      let most = control_ahead old.load.now head (answers_of old.load.now head) control refl in
+      record {
+        room = omega (arith, ready.room, most.0);
+        within = omega (arith, ready.within, most.1);
+        few = omega (arith, ready.few, most.0);
+      }
+
+  -- the whole group is added
+  pub owes-goes : (old mid new : Book U u) (head : Origin) (os : List Origin)
+      → is_control old.load.now head ≡ true → answers_of old.load.now head ≡ os
+      → Owes head old mid → GoesFor [] os mid new
+      → GoesFor (head ∷ []) (group_of old.load.now head) old new
+  owes-goes old mid new head os control are owes goes =
+      let load = old.load.now in
+      let most = control_ahead load head os control are in
+      let after : Goes [] (items_ahead load os) (bytes_ahead load os) mid new =
+      subst (λ l. Goes [] (items_ahead l os) (bytes_ahead l os) mid new) owes.goes.load goes in
+      let both = goes-then old mid new (head ∷ []) [] 1 (items_ahead load os) 0
+      (bytes_ahead load os) owes.goes after in
+      goes-less old new (head ∷ []) (1 + items_ahead load os)
+      (items_ahead load (group_of load head)) (0 + bytes_ahead load os)
+      (bytes_ahead load (group_of load head)) both (omega (arith, most.0)) (omega (arith, most.1))
 
   -- a stop
-  pub stop-holds : (old noted packed : Book U u) (writer step : ℕ)
-      → Stays old noted → noted.up ≡ old.up
-      → noted.journal.items ≡ old.journal.items ++ made (Call writer step) old.moment
-      (u.freed old.up) Handled ∷ []
-      → act_of old.load.now writer step ≡ Some acts.Stop
-      → ((owed rest : List Origin) → Holds noted owed
-      → IsPacketHere noted.load.now noted.journal.items owed (Reply kinds.TraceStop 0)
-      noted.moment rest → HoldsAs (noted.on && not (is_stop_reply (Reply kinds.TraceStop 0)))
+  pub stop-holds : (old mid packed : Book U u) (head : Origin) → Owes head old mid
+      → answers_of old.load.now head ≡ Reply kinds.TraceStop 0 ∷ []
+      → ((owed rest : List Origin) → Holds mid owed
+      → IsPacketHere mid.load.now mid.journal.items owed (Reply kinds.TraceStop 0)
+      mid.moment rest → HoldsAs (mid.on && not (is_stop_reply (Reply kinds.TraceStop 0)))
       packed rest)
-      → Goes (Call writer step ∷ []) 1 0 old noted
-      → Holds old [] → IsNextStep old.load.now (latest_first old.journal.items) (Call writer step)
-      → old.moment ≡ ticks_of old.load.now (Call writer step) + clock_of old.load.now
-      old.journal.items
-      → HoldsAs false packed []
-  stop-holds old noted packed writer step changed up item act packet_kept head_goes k next clock =
-      let owes = stop_owes old.load.now writer step act in
-      let control : is_control old.load.now (Call writer step) ≡ true = rw (owes.1, owes.2) refl in
-      let kept = handled old.load.now old.journal.items (u.sent old.up) (u.freed old.up) old.on
-      old.pending old.last writer step old.moment k control next clock in
-      let kept2 : Keeps old.load.now noted.journal.items (Reply kinds.TraceStop 0 ∷ [])
-      (u.sent old.up) (u.freed old.up) old.on old.pending old.last =
-      subst (λ (is : List Item). Keeps old.load.now is (Reply kinds.TraceStop 0 ∷ [])
-      (u.sent old.up) (u.freed old.up) old.on old.pending old.last) (sym item)
-      (rw (owes.0, owes.1) at kept) in
-      let held : Holds noted (Reply kinds.TraceStop 0 ∷ []) =
-      rw (changed.load, up, changed.on, changed.pending, changed.last) kept2 in
-      let clock1 : noted.moment ≡ clock_of noted.load.now noted.journal.items =
-      head_goes.moment ∙ clock ∙ sym (clock-goes old noted (Call writer step ∷ []) 1 0 head_goes
-      ∙ one_head (clock_of old.load.now old.journal.items)
-      (ticks_of old.load.now (Call writer step))) in
+      → IsHeadDue head old → HoldsAs false packed []
+  stop-holds old mid packed head owes are packet_kept due =
+      let held : Holds mid (Reply kinds.TraceStop 0 ∷ []) = subst (Holds mid) are (owes.kept due) in
       let told = packet_kept (Reply kinds.TraceStop 0 ∷ []) [] held
-      (reply_here noted.load.now noted.journal.items kinds.TraceStop 0 noted.moment [] clock1) in
-      subst (λ (b : Bool). HoldsAs b packed []) (none noted.on) told
+      (reply_here mid.load.now mid.journal.items kinds.TraceStop 0 mid.moment []
+      (clock-owes old mid head owes due)) in
+      subst (λ (b : Bool). HoldsAs b packed []) (none mid.on) told
     where
-      one_head : (n m : ℕ) → n + (0 + m) ≡ m + n
-      one_head n m = omega arith
-
       none : (b : Bool) → (b && false) ≡ false
       none true = refl
       none false = refl
+
+  -- a command that was found
+  pub obeys : (old new : Book U u) (command : Command) (found : Option Command)
+      → found ≡ Some command
+      → KeepsHead (origins.Command command.byte command.param) old new
+      → GoesFor (origins.Command command.byte command.param ∷ [])
+      (group_of old.load.now (origins.Command command.byte command.param)) old new
+      → Obeys found old new
+  obeys old new command found is kept goes = subst (λ (f : Option Command). Obeys f old new) (sym is)
+      (record {
+        items = items_ahead old.load.now (group_of old.load.now head);
+        bytes = bytes_ahead old.load.now (group_of old.load.now head);
+        goes = goes;
+        kept = λ held clock here. kept (record {
+          held = held;
+          here = here;
+          clock = let e : old.moment ≡ 0 + clock_of old.load.now
+              old.journal.items = omega (arith, clock) in e;
+        });
+      })
+    where
+      head : Origin
+      head = origins.Command command.byte command.param
 
   -- a step that records an event
   pub event-holds : (old new : Book U u) (writer step : ℕ) (event : Event)
@@ -205,19 +252,15 @@ module _ {U : Type 0} {u : Ghosts U} where
       → IsPacketHere old.load.now old.journal.items owed (Call writer step) old.moment rest
       → HoldsAs (old.on && not (is_stop_reply (Call writer step))) new rest)
       → new.on ≡ old.on
-      → Holds old [] → IsNextStep old.load.now (latest_first old.journal.items) (Call writer step)
-      → old.moment ≡ ticks_of old.load.now (Call writer step) + clock_of old.load.now
-      old.journal.items
-      → Holds new []
-  event-holds old new writer step event act packet_kept on k next clock =
+      → KeepsHead (Call writer step) old new
+  event-holds old new writer step event act packet_kept on = λ due.
       let owes = event_owes old.load.now writer step (acts.Event event) act refl refl in
-      let told = packet_kept [] [] k (record {
+      let told = packet_kept [] [] due.held (record {
         telling = refl;
         control = owes.1;
-        due =
-            inr (refl, refl, sym owes.0);
-        step = next;
-        ticks = clock;
+        due = inr (refl, refl, sym owes.0);
+        step = due.here.may.step;
+        ticks = due.clock;
       }) in
       subst (λ (b : Bool). HoldsAs b new []) (always old.on ∙ sym on) told
     where

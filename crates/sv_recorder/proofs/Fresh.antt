@@ -1,13 +1,11 @@
 -- A recorder that has recorded nothing.
 use Rattle.std.proofs.Common.{◌≡◌, ℕ, zero, suc, ◌≤◌, false, List, [], ◌∷◌, get_or, replicate}
 use Rattle.std.proofs.Common.{refl, sym, subst, arith}
-use Rattle.sv_workload.specs.Grammar.{SaysNothingOfLater}
 use Rattle.sv_workload.specs.Load.{Load}
 use Rattle.sv_workload.specs.Need.{IsWithinLimits, need_items, need_bytes}
 use Rattle.sv_journal.specs.declared.journal.Item.{Item}
-use Rattle.sv_recorder.specs.Plain.{IsPlain}
 use Rattle.sv_recorder.specs.Kept.{Keeps}
-use Rattle.sv_recorder.specs.Recording.{IsRecorder}
+use Rattle.sv_recorder.specs.Recording.{IsRecorder, IsInbox}
 
 keeps_nothing : (load : Load) → Keeps load [] [] [] 0 false 0 0
 keeps_nothing load = record {
@@ -44,10 +42,8 @@ pub fresh : (load : Load) (items : List Item) (sent : List ℕ) (freed limit cap
 fresh load items sent freed limit capacity limits items_is sent_is freed_is bytes room =
     rw (items_is, sent_is, freed_is) (nothing load limit capacity limits bytes room)
 
--- a workload is plain where it has nothing that only words of later would say
-pub plain_of : (load : Load) → SaysNothingOfLater load → IsPlain load
-plain_of load later = record {
-  timed = later.timed;
-  modules = later.modules;
-  commands = later.commands;
-}
+-- nothing was taken from the host
+pub no_command : (items : List Item) (answered : List ℕ) → items ≡ [] → answered ≡ []
+    → IsInbox items answered [] 0
+no_command items answered items_is answered_is = rw (items_is, answered_is)
+    (record { count_is = refl; answered_is = refl; waits = tt })

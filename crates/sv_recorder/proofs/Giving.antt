@@ -1,5 +1,5 @@
 -- The answers of a step, one after another.
-use Rattle.std.proofs.Common.{◌≡◌, ℕ, zero, suc, ◌+◌, ◌<◌, ◌≤◌, true, false, not, ◌&&◌, List, []}
+use Rattle.std.proofs.Common.{◌≡◌, ℕ, zero, suc, ◌+◌, ◌<◌, ◌≤◌, Bool, true, false, not, ◌&&◌, List, []}
 use Rattle.std.proofs.Common.{◌∷◌, ◌++◌, length, get_or, drop, map, refl, sym, ap, ◌∙◌, subst, arith}
 use Rattle.std.proofs.Common.{append_assoc, append-nil, add-one}
 use Rattle.std.specs.Prelude.{flat_map}
@@ -9,6 +9,7 @@ use Rattle.std.proofs.lemmas.List.{length-append}
 use Rattle.std.proofs.lemmas.List.Concat.{flat_map-cons}
 use Rattle.std.proofs.lemmas.List.Sums.{sum_by-cons, sum_by-append}
 use Rattle.sv_ring.specs.declared.up_writer.UpWriter.{Ghosts}
+use Rattle.sv_desc.specs.Modules.{ModuleRow}
 use Rattle.sv_workload.specs.declared.load.Task.{Task}
 use Rattle.sv_workload.specs.Load.{Load}
 use Rattle.sv_journal.specs.declared.journal.Kind.{Kind}
@@ -56,19 +57,33 @@ bytes_one load o telling = omega (
   packet_weight load o telling,
 )
 
--- THE LINES AND TASKS THAT ARE LEFT
+-- THE LINES, TASKS AND MODULES THAT ARE LEFT
 
 drop-next : {X : Type 0} (xs : List X) (k : ℕ) (d : X) → k < length xs
     → drop k xs ≡ get_or xs k d ∷ drop (k + 1) xs
 drop-next xs k d within = rw add-one (drop-cons xs k d within)
 
-abbrev pub lines_left : Load → ℕ → List Origin
-lines_left load k = map (λ e. Reply kinds.Line e.0) (enumerate_from k (drop k load.lines))
+-- the replies for the elements from this place on
+abbrev pub replies_left : {X : Type 0} → Kind → List X → ℕ → List Origin
+replies_left kind xs k = map (λ e. Reply kind e.0) (enumerate_from k (drop k xs))
+
+pub replies-next : {X : Type 0} (kind : Kind) (xs : List X) (k : ℕ) (d : X) → k < length xs
+    → replies_left kind xs k ≡ Reply kind k ∷ replies_left kind xs (k + 1)
+replies-next {X} kind xs k d within = ap (λ (ys : List X).
+    map (λ e. Reply kind e.0) (enumerate_from k ys)) (drop-next xs k d within)
+
+no_module : ModuleRow
+no_module = record { events = 0; name = [] }
 
 pub lines-next : (load : Load) (k : ℕ) → k < length load.lines
-    → lines_left load k ≡ Reply kinds.Line k ∷ lines_left load (k + 1)
-lines-next load k within = ap (λ (xs : List (List ℕ)).
-    map (λ e. Reply kinds.Line e.0) (enumerate_from k xs)) (drop-next load.lines k [] within)
+    → replies_left kinds.Line load.lines k ≡ Reply kinds.Line k
+    ∷ replies_left kinds.Line load.lines (k + 1)
+lines-next load k within = replies-next kinds.Line load.lines k [] within
+
+pub modules-next : (load : Load) (k : ℕ) → k < length load.modules
+    → replies_left kinds.Module load.modules k ≡ Reply kinds.Module k
+    ∷ replies_left kinds.Module load.modules (k + 1)
+modules-next load k within = replies-next kinds.Module load.modules k no_module within
 
 abbrev pub tasks_left : Load → ℕ → List Origin
 tasks_left load k = flat_map (λ e. Reply kinds.Task e.0 ∷ Reply kinds.Stack e.0 ∷ [])
@@ -94,9 +109,10 @@ drop-all [] (suc k) h = refl
 drop-all (x ∷ xs) zero h = absurd (omega (arith, h))
 drop-all (x ∷ xs) (suc k) h = drop-all xs k (omega (arith, h))
 
-pub lines-none : (load : Load) (k : ℕ) → length load.lines ≤ k → lines_left load k ≡ []
-lines-none load k h = ap (λ (xs : List (List ℕ)).
-    map (λ e. Reply kinds.Line e.0) (enumerate_from k xs)) (drop-all load.lines k h)
+pub replies-none : {X : Type 0} (kind : Kind) (xs : List X) (k : ℕ) → length xs ≤ k
+    → replies_left kind xs k ≡ []
+replies-none {X} kind xs k h = ap (λ (ys : List X).
+    map (λ e. Reply kind e.0) (enumerate_from k ys)) (drop-all xs k h)
 
 pub tasks-none : (load : Load) (k : ℕ) → length load.tasks ≤ k → tasks_left load k ≡ []
 tasks-none load k h = ap (λ (xs : List Task). flat_map
@@ -163,7 +179,7 @@ module _ {U : Type 0} {u : Ghosts U} where
       (bytes_ahead load xs) (bytes_ahead load ys) both gives.goes in
       subst (λ l. IsReady (items_ahead l ys) (bytes_ahead l ys) mid) (sym gives.goes.load) behind
 
-  goes-none : (book : Book U u) → Goes [] 0 0 book book
+  pub goes-none : (book : Book U u) → Goes [] 0 0 book book
   goes-none book = record {
     load = refl;
     moment = refl;
@@ -180,8 +196,8 @@ module _ {U : Type 0} {u : Ghosts U} where
     moved = λ s. (s, (refl, refl));
   }
 
-  pub gives-none : (book : Book U u) → book.on ≡ true → Gives [] book book
-  gives-none book on = record { kept = λ rest k clock. k; goes = goes-none book; on = on }
+  pub gives-none : (book : Book U u) → Gives [] book book
+  gives-none book = record { kept = λ rest k clock. k; goes = goes-none book; on = refl }
 
   -- the clock goes on
   clock-gives : (old mid : Book U u) (os : List Origin) → Gives os old mid
@@ -212,34 +228,36 @@ module _ {U : Type 0} {u : Ghosts U} where
         goes = subst (λ n. Goes [] n (bytes_ahead load (xs ++ ys)) old new) (sym items)
             (subst (λ n. Goes [] (items_ahead load xs + items_ahead mid.load.now ys) n old new)
             (sym bytes) both);
-        on = q.on;
+        on = q.on ∙ p.on;
       }
 
   -- a reply that does not switch the recorder off
   pub gives-reply : (old new : Book U u) (kind : Kind) (index : ℕ)
-      → is_stop_reply (Reply kind index) ≡ false → old.on ≡ true
+      → is_stop_reply (Reply kind index) ≡ false
       → ((owed rest : List Origin) → Holds old owed
       → IsPacketHere old.load.now old.journal.items owed (Reply kind index) old.moment rest
       → HoldsAs (old.on && not (is_stop_reply (Reply kind index))) new rest)
       → Goes [] 2 (packet_bytes old.load.now (Reply kind index)) old new → new.on ≡ old.on
       → Gives (Reply kind index ∷ []) old new
-  gives-reply old new kind index stays on kept goes same = record {
+  gives-reply old new kind index stays kept goes same = record {
     kept = λ rest k clock.
         let told = kept (Reply kind index ∷ rest) rest k
         (reply_here old.load.now old.journal.items kind index old.moment rest clock) in
         let still : (old.on && not (is_stop_reply (Reply kind index))) ≡ new.on =
-        ap (λ b. b && not (is_stop_reply (Reply kind index))) on ∙ ap not stays
-        ∙ sym (same ∙ on) in
+        ap (λ b. old.on && not b) stays ∙ always old.on ∙ sym same in
         subst (λ b. HoldsAs b new rest) still told;
     goes = goes_one old new [] (Reply kind index) refl refl goes;
-    on = same ∙ on;
+    on = same;
   }
+    where
+      always : (b : Bool) → (b && true) ≡ b
+      always true = refl
+      always false = refl
 
   -- ROW BY ROW
 
-  pub giving-all : (book : Book U u) (all : List Origin) → book.on ≡ true
-      → IsGiving all all book book
-  giving-all book all on = record { given = []; split = refl; gives = gives-none book on }
+  pub giving-all : (book : Book U u) (all : List Origin) → IsGiving all all book book
+  giving-all book all = record { given = []; split = refl; gives = gives-none book }
 
   pub giving-ready : (old mid : Book U u) (all rest : List Origin) → IsReadyFor all old
       → IsGiving all rest old mid → IsReadyFor rest mid

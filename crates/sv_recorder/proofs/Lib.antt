@@ -1,6 +1,9 @@
 pub mod Shared
 pub mod examples
 pub mod Freed
+pub mod Rows
+pub mod Commands
+pub mod Inboxes
 pub mod Items
 pub mod Packets
 pub mod Overflows
@@ -14,4 +17,5 @@ pub mod Giving
 pub mod Books
 pub mod Recorders
 pub mod Views
+pub mod Sections
 pub mod Fresh

@@ -5,7 +5,7 @@ use Rattle.std.proofs.Common.{◌≡◌, ◌≢◌, ℕ, zero, suc, ◌+◌, ◌
 use Rattle.std.proofs.Common.{List, [], ◌∷◌, ◌++◌, length, get_or, refl, sym, ap, ◌∙◌, subst, arith}
 use Rattle.std.proofs.Common.{vec_capacity, inr}
 use Rattle.std.specs.Prelude.{sum_by, count_by, take_while, slice_get, slice_set, slice_index_or}
-use Rattle.std.specs.Prelude.{Some, None, ◌==◌}
+use Rattle.std.specs.Prelude.{Option, Some, ◌==◌}
 use Rattle.std.specs.List.{prefix_len}
 use Rattle.std.proofs.lemmas.Bool.{eq-eqb, ne_eqb}
 use Rattle.std.proofs.lemmas.List.{length-append, length-reverse, length-take, length-set}
@@ -22,7 +22,8 @@ use Rattle.sv_journal.specs.Legal.{IsNextStep, ticks_of, answers_of, group_of}
 use Rattle.sv_journal.specs.Open.{IsDue}
 use Rattle.sv_journal.specs.Stream.{stream_of}
 use Rattle.sv_journal.specs.Clock.{clock_of}
-use Rattle.sv_journal.specs.Section.{IsSection}
+use Rattle.sv_journal.specs.Section.{IsSection, command_head}
+use Rattle.sv_workload.specs.declared.load.Command.{Command}
 use Rattle.sv_journal.proofs.Shared.{after_refused-fresh}
 use Rattle.sv_need.specs.Next.{MayCome}
 use Rattle.sv_need.specs.Weights.{items_ahead, bytes_ahead}
@@ -30,10 +31,11 @@ use Rattle.sv_need.proofs.Shared.{due_items, due_bytes, few_needed, ticks_next}
 use Rattle.sv_recorder.specs.declared.book.Book.{Book}
 use Rattle.sv_recorder.specs.Freed.{AreFreed}
 use Rattle.sv_recorder.specs.Kept.{Keeps}
-use Rattle.sv_recorder.specs.Book.{Advances, Holds, Goes, IsReady, KeepsStep}
+use Rattle.sv_recorder.specs.Book.{Advances, Holds, Goes, IsReady}
+use Rattle.sv_recorder.specs.Heads.{KeepsHead}
 use Rattle.sv_recorder.specs.Replies.{IsReadyFor, GoesFor}
 use Rattle.sv_recorder.specs.Recording.{IsRecorder}
-use Rattle.sv_recorder.proofs.Goes.{sum_latest, calls_heads, clock-goes}
+use Rattle.sv_recorder.proofs.Goes.{sum_latest, calls_heads, clock-goes, goes-then}
 use Rattle.sv_recorder.proofs.Books.{ticks_at}
 
 pub count_latest : (p : Item → Bool) (items : List Item)
@@ -184,7 +186,7 @@ module _ {U : Type 0} {u : Ghosts U} where
   -- a step was taken
   pub taken : (old mid new : Book U u) (places : List ℕ) (writer place : ℕ) (step : Step)
       → IsAt old places writer place step → Advances step.advance old mid
-      → KeepsStep (Call writer place) mid new
+      → KeepsHead (Call writer place) mid new
       → GoesFor (Call writer place ∷ []) (group_of mid.load.now (Call writer place)) mid new
       → Keeping new (slice_set places writer (place + 1))
   taken old mid new places writer place step at a kept goes =
@@ -206,8 +208,14 @@ module _ {U : Type 0} {u : Ghosts U} where
       (vec_capacity new.journal) = record {
         limits = r.limits;
         held = subst (λ (l : Load). Keeps l new.journal.items [] (u.sent new.up) (u.freed new.up)
-            new.on new.pending new.last) load_is (kept held next
-            (next_moment old mid places writer place step at a));
+            new.on new.pending new.last) load_is (kept (record {
+              held = held;
+              here = record {
+                may = record { step = next; command = λ (e : false ≡ true). absurd cc };
+                place = tt;
+              };
+              clock = next_moment old mid places writer place step at a;
+            }));
         clock = moment ∙ clock_is old.moment step.advance (ticks_of load call)
             (clock_of load old.journal.items) r.clock tick ∙ sym clock
             ∙ ap (λ (l : Load). clock_of l new.journal.items) load_is;
@@ -253,27 +261,42 @@ module _ {U : Type 0} {u : Ghosts U} where
       there old new writer other apart more =
           omega (arith, more, ap {B = ℕ} (λ b. cond b 1 0) (ne_eqb writer other apart))
 
-  -- what the section added
-  pub section_of : (old mid new : Book U u) (places : List ℕ) (writer place : ℕ) (step : Step)
+  -- what was added after the ticks of a step
+  pub section_goes : (old mid new : Book U u) (places : List ℕ) (writer place : ℕ) (step : Step)
+      (found : Option Command) (m a : ℕ)
       → IsAt old places writer place step → Advances step.advance old mid
-      → GoesFor (Call writer place ∷ []) (group_of mid.load.now (Call writer place)) mid new
-      → (s : IsSection old.journal.items new.journal.items writer None)
+      → Goes (Call writer place ∷ command_head found) m a mid new
+      → (s : IsSection old.journal.items new.journal.items writer found)
       × AreFreed old.load.now (latest_first old.journal.items) s.more (u.way old.up)
       (u.freed old.up) (u.way new.up) (u.freed new.up)
-  section_of old mid new places writer place step at a goes =
+  section_goes old mid new places writer place step found m a at ad goes =
       let r = at.kept in
       let stream : u.sent mid.up ≡ stream_of mid.load.now mid.journal.items =
-      rw (a.load, a.journal, a.up) r.held.sent_is in
+      rw (ad.load, ad.journal, ad.up) r.held.sent_is in
       let last : mid.last ≡ last_moment (latest_first mid.journal.items) =
-      rw (a.last, a.journal) r.held.last_is in
+      rw (ad.last, ad.journal) r.held.last_is in
       let ready : is_after_refused_overflow (latest_first mid.journal.items) ≡ false =
-      rw a.journal (after_refused-fresh (latest_first old.journal.items) r.held.opened.ends) in
+      rw ad.journal (after_refused-fresh (latest_first old.journal.items) r.held.opened.ends) in
       let moved = (goes.moved (record { stream = stream; last = last; ready = ready })).1 in (
         record {
           more = goes.more;
-          longer = goes.added ∙ ap (λ v. v.items ++ goes.more) a.journal;
-          heads = goes.headed
-              ∙ ap (λ (n : ℕ). Call writer n ∷ []) (place_count old places writer place step at);
+          longer = goes.added ∙ ap (λ v. v.items ++ goes.more) ad.journal;
+          heads = goes.headed ∙ ap (λ (k : ℕ). Call writer k ∷ command_head found)
+              (place_count old places writer place step at);
         },
-        rw (a.load, a.journal, a.up) at moved,
+        rw (ad.load, ad.journal, ad.up) at moved,
       )
+
+  -- the group of the step, and that of a command that was found
+  pub section_of : (old mid taken_book new : Book U u) (places : List ℕ) (writer place : ℕ)
+      (step : Step) (found : Option Command) (m a n b : ℕ)
+      → IsAt old places writer place step → Advances step.advance old mid
+      → Goes (Call writer place ∷ []) m a mid taken_book
+      → Goes (command_head found) n b taken_book new
+      → (s : IsSection old.journal.items new.journal.items writer found)
+      × AreFreed old.load.now (latest_first old.journal.items) s.more (u.way old.up)
+      (u.freed old.up) (u.way new.up) (u.freed new.up)
+  section_of old mid taken_book new places writer place step found m a n b at ad first second =
+      section_goes old mid new places writer place step found (m + n) (a + b) at ad
+      (goes-then mid taken_book new (Call writer place ∷ []) (command_head found) m n a b first
+      second)

@@ -1,3 +1,2 @@
 -- What crates above may use of the lemmas on recorders.
-pub use Rattle.sv_recorder.proofs.Fresh.{plain_of}
 pub use Rattle.sv_recorder.proofs.Freed.{still-freed}

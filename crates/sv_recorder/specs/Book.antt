@@ -12,8 +12,7 @@ use Rattle.sv_recorder.specs.Freed.{AreFreed}
 use Rattle.sv_journal.specs.Items.{latest_first, last_moment, is_after_refused_overflow}
 use Rattle.sv_recorder.specs.Kept.{Keeps}
 use Rattle.sv_journal.specs.Stream.{stream_of}
-use Rattle.sv_journal.specs.Legal.{is_head, origins_of, IsNextStep, ticks_of}
-use Rattle.sv_journal.specs.Clock.{clock_of}
+use Rattle.sv_journal.specs.Legal.{is_head, origins_of}
 use Rattle.sv_recorder.specs.Writes.{IsPacketHere}
 
 -- the book keeps a journal that owes these answers
@@ -103,14 +102,6 @@ pub record Records {U : Type 0} {u : Ghosts U}
   pub goes : Goes (head_if origin) 2 (packet_bytes old.load.now origin) old new
   pub on : new.on ≡ old.on
   pub item : Gains old.journal.items new.journal.items origin outcome
-
--- over the group of a step a book that owes nothing comes to owe nothing
-abbrev pub KeepsStep : {U : Type 0} {u : Ghosts U} → Origin → Book U u → Book U u → Type 0
-KeepsStep {U} {u} call old new =
-    Holds old []
-    → IsNextStep old.load.now (latest_first old.journal.items) call
-    → old.moment ≡ ticks_of old.load.now call + clock_of old.load.now old.journal.items
-    → Holds new []
 
 -- over a packet that may be recorded next; the recorder is then on or off as is said
 abbrev pub KeepsPacket : {U : Type 0} {u : Ghosts U}

@@ -3,7 +3,10 @@ pub mod Freed
 pub mod Writes
 pub mod Formed
 pub mod Book
-pub mod Plain
+pub mod Tells
+pub mod Commands
 pub mod Replies
+pub mod Heads
 pub mod Answer
 pub mod Recording
+pub mod Asked

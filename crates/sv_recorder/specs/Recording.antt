@@ -1,11 +1,14 @@
--- What a recorder is: the history that it kept, and the end of the ring that it writes to.
-use Rattle.std.specs.Prelude.{◌≡◌, ℕ, ◌<◌, ◌≤◌, Bool, List, [], length, count_by, slice_index_or}
+-- What a recorder is: the history that it kept, the end of the ring that it writes to, and that of
+-- the ring that the host's commands come by.
+use Rattle.std.specs.Prelude.{◌≡◌, ℕ, ◌<◌, ◌≤◌, Bool, List, [], ◌++◌, length, count_by}
+use Rattle.std.specs.Prelude.{slice_index_or, Option}
 use Rattle.sv_ring.specs.Ring.{Way}
 use Rattle.sv_workload.specs.Load.{Load}
 use Rattle.sv_workload.specs.Need.{IsWithinLimits, need_items, need_bytes}
 use Rattle.sv_journal.specs.declared.journal.Item.{Item}
-use Rattle.sv_journal.specs.Items.{is_call_of}
+use Rattle.sv_journal.specs.Items.{is_call_of, is_command}
 use Rattle.sv_journal.specs.Clock.{clock_of}
+use Rattle.sv_recorder.specs.Commands.{bytes_in, IsWaiting}
 use Rattle.sv_recorder.specs.Kept.{Keeps}
 
 pub record Recording : Type 0 where
@@ -17,6 +20,14 @@ pub record Recording : Type 0 where
   pub sent : List ℕ
   pub freed : ℕ
   pub way : Way
+  -- the name of the host's ring, the bytes that were taken from it, all that were sent where it
+  -- tells that, and how often it had none
+  pub down : List (List ℕ)
+  pub answered : List ℕ
+  pub asked : Option (List ℕ)
+  pub empties : ℕ
+  -- the first byte of a command whose parameter is not there yet, if one waits
+  pub kept : List ℕ
 
 -- the places are those of the writers in their scripts
 abbrev pub ArePlaces : Load → List Item → List ℕ → Type 0
@@ -34,3 +45,10 @@ pub record IsRecorder (load : Load) (items : List Item) (sent : List ℕ) (freed
   pub places_are : ArePlaces load items places
   pub room : need_items load ≤ capacity
   pub bytes : need_bytes load ≤ limit
+
+-- what a recorder keeps of the host's commands: their number, and the bytes that were taken, which
+-- are those of the commands in the journal and the one that waits
+pub record IsInbox (items : List Item) (answered kept : List ℕ) (count : ℕ) : Type 0 where
+  pub count_is : count ≡ count_by (λ i. is_command i.origin) items
+  pub answered_is : answered ≡ bytes_in items ++ kept
+  pub waits : IsWaiting kept

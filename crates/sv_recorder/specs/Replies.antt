@@ -1,11 +1,19 @@
 -- How a recorder gives the answers that a step owes.
-use Rattle.std.specs.Prelude.{◌≡◌, List, [], ◌++◌, true}
+use Rattle.std.specs.Prelude.{◌≡◌, ℕ, List, [], ◌∷◌, ◌++◌, length, nat_lt, if◌then◌else◌}
 use Rattle.sv_ring.specs.declared.up_writer.UpWriter.{Ghosts}
+use Rattle.sv_workload.specs.Load.{Load}
+use Rattle.sv_journal.specs.declared.journal.Kind.TheVariants as kinds
 use Rattle.sv_journal.specs.declared.journal.Origin.{Origin}
+use Rattle.sv_journal.specs.declared.journal.Origin.TheVariants.{Reply}
 use Rattle.sv_journal.specs.Clock.{clock_of}
 use Rattle.sv_need.specs.Weights.{items_ahead, bytes_ahead}
 use Rattle.sv_recorder.specs.declared.book.Book.{Book}
 use Rattle.sv_recorder.specs.Book.{Holds, Goes, IsReady}
+
+-- the module of this number, where there is one
+abbrev pub module_replies : Load → ℕ → List Origin
+module_replies load index =
+    if nat_lt index (length load.modules) then Reply kinds.Module index ∷ [] else []
 
 -- there is room for these origins, each packet with an overflow before it
 abbrev pub IsReadyFor : {U : Type 0} {u : Ghosts U} → List Origin → Book U u → Type 0
@@ -23,7 +31,7 @@ pub record Gives {U : Type 0} {u : Ghosts U} (os : List Origin) (old now : Book 
   pub kept : (rest : List Origin) → Holds old (os ++ rest)
       → old.moment ≡ clock_of old.load.now old.journal.items → Holds now rest
   pub goes : GoesFor [] os old now
-  pub on : now.on ≡ true
+  pub on : now.on ≡ old.on
 
 -- of these answers the first are given, and the rest is owed
 pub record IsGiving {U : Type 0} {u : Ghosts U} (all rest : List Origin) (old now : Book U u)

@@ -3,7 +3,6 @@ ghost use Rattle.std.specs.Prelude.{◌≡◌, ℕ, ◌+◌, ◌^◌, ◌<◌, �
 ghost use Rattle.std.specs.Prelude.{if◌then◌else◌, List, length, vec_capacity};
 ghost use Rattle.sv_ring.specs.Ring.{room_of};
 ghost use Rattle.sv_workload.specs.Need.{HasShortTexts};
-ghost use Rattle.sv_recorder.specs.Plain.{IsPlain};
 ghost use Rattle.sv_recorder.specs.Writes.{Writes, MovesBy, made, outcome_if};
 
 use sv_journal::{Item, Journal, Origin, Outcome};
@@ -22,10 +21,10 @@ pub struct Book<'w, U: UpWriter + Drop> {
     pub pending: u32,
     pub last: u64,
     pub moment: u64,
-    ghost plain: { IsPlain load.now },
     ghost texts: { HasShortTexts load.now },
     ghost ring: { U.size up ≡ load.now.ring },
     ghost later: { last ≤ moment },
+    ghost early: { moment ≤ 2 ^ 53 },
 }
 
 /// Whether the ring took the block.
@@ -66,7 +65,7 @@ impl<'w, U: UpWriter + Drop> Book<'w, U> {
     /// The ticks of a step pass.
     #[inline(always)]
     pub fn advance(&mut self, ticks: u64)
-        requires { self.old.moment + ticks < 2 ^ 64 }
+        requires { self.old.moment + ticks ≤ 2 ^ 53 }
         ensures { Advances ticks self.old self.new }
     {
         self.moment += ticks;

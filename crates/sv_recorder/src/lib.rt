@@ -11,8 +11,10 @@
 
 mod answer;
 mod book;
+mod inbox;
 mod packet;
 mod recorder;
+mod replies;
 mod section;
 
 pub use answer::Answer;

@@ -1,168 +1,158 @@
-//! The groups of items that a step gives: an event, a start or a stop with its answers.
-ghost use Rattle.std.specs.Prelude.{◌≡◌, [], ◌∷◌, false, true, Some};
-ghost use Rattle.sv_workload.specs.Load.{act_of, step_of};
+//! The groups of items: of a step that records an event, of a start, a stop or a command with its
+//! answers.
+ghost use Rattle.std.specs.Prelude.{◌≡◌, [], ◌∷◌, false, true, Some, ◌||◌, IfSome};
+ghost use Rattle.sv_workload.specs.Load.{step_of};
 ghost use Rattle.sv_workload.specs.Need.{IsStepAct};
-ghost use Rattle.sv_journal.specs.Legal.{group_of, init_replies, replies_for, start_answers};
-ghost use Rattle.sv_journal.specs.Legal.{task_replies};
-ghost use Rattle.sv_recorder.specs.Formed.{IsFormed, IsThere};
+ghost use Rattle.sv_journal.specs.Items.{is_start, is_stop};
+ghost use Rattle.sv_journal.specs.Legal.{group_of, is_control};
+ghost use Rattle.sv_recorder.specs.Formed.{IsFormed};
 
 use crate::answer::Answer;
 use crate::book::Book;
+use sv_desc::Describes;
 use sv_journal::{Kind, Origin, Outcome};
 use sv_prim::Buf;
 use sv_ring::UpWriter;
-use sv_workload::{Act, Step};
-
-/// What stands before the packets of a start (RTT, synchronisation).
-const ZEROS: [u8; 10] = [0; 10];
+use sv_workload::{Act, Command, Step};
 
 impl<'w, U: UpWriter + Drop> Book<'w, U> {
-    ghost use Rattle.sv_journal.specs.declared.journal.Kind.TheVariants as kinds;
-    ghost use Rattle.sv_journal.specs.declared.journal.Origin.TheVariants.{Call, Sync, Reply};
-    ghost use Rattle.sv_workload.specs.declared.load.Act.TheVariants as acts;
-    ghost use Rattle.sv_journal.specs.Items.{is_stop_reply};
-    ghost use Rattle.sv_recorder.specs.Book.{KeepsStep};
-    ghost use Rattle.sv_recorder.specs.Replies.{IsReadyFor, GoesFor, Gives};
-    ghost use Rattle.sv_recorder.specs.Answer.{answer_of, Gains, IsAnswered};
+    ghost use Rattle.sv_journal.specs.declared.journal.Origin.TheVariants.{Call};
+    ghost use Rattle.sv_journal.specs.declared.journal.Origin.TheVariants as origins;
     ghost use Rattle.sv_journal.specs.declared.journal.Outcome.{Outcome};
+    ghost use Rattle.sv_recorder.specs.Book.{IsReady};
+    ghost use Rattle.sv_recorder.specs.Heads.{KeepsHead, Obeys, Owes};
+    ghost use Rattle.sv_recorder.specs.Replies.{IsReadyFor, GoesFor};
+    ghost use Rattle.sv_recorder.specs.Answer.{answer_of, Gains, IsAnswered};
+    ghost use Rattle.sv_recorder.specs.Tells.{IsOver};
 
-    /// Ten zero bytes, by which a host finds its place.
-    fn sync(&mut self)
-        requires ready { IsReadyFor (Sync ∷ []) self.old }
-        requires on { self.old.on ≡ true }
-        ensures { Gives (Sync ∷ []) self.old self.new }
+    /// A start, a stop or a command, before its answers. The recorder is then on or off as is said:
+    /// on after a start, and else as before.
+    fn handle(&mut self, head: Origin, on: bool)
+        requires control { is_control self.old.load.now head ≡ true }
+        requires on { on ≡ (is_start self.old.load.now head || self.old.on) }
+        requires ready { IsReady 1 0 self.old }
+        ensures { Owes head self.old self.new }
     {
-        let _ = self.write(Origin::Sync, &ZEROS);
+        self.note(head, Outcome::Handled);
+        self.on = on;
     }
 
-    /// Records a reply that is owed, about what is there.
-    fn reply(&mut self, kind: Kind, index: u32, block: &mut Buf)
-        requires there { IsThere self.old.load.now kind index }
-        requires stays { is_stop_reply (Reply kind index) ≡ false }
-        requires ready { IsReadyFor (Reply kind index ∷ []) self.old }
-        requires on { self.old.on ≡ true }
-        ensures { Gives (Reply kind index ∷ []) self.old self.new }
+    /// A step or a command that starts the recorder: it, and its answers.
+    fn start<P: Describes>(&mut self, head: Origin, desc: &P, block: &mut Buf)
+        requires start { is_start self.old.load.now head ≡ true }
+        requires over { IsOver P.kept P.lines P.clock self.old.load.now desc.now }
+        requires ready { IsReadyFor (group_of self.old.load.now head) self.old }
+        ensures kept { KeepsHead head self.old self.new }
+        ensures goes { GoesFor (head ∷ []) (group_of self.old.load.now head) self.old self.new }
     {
-        self.packet(Origin::Reply { kind, index }, block);
+        self.handle(head, true);
+        self.describe(desc, block);
     }
 
-    /// The lines that describe the system.
-    fn lines(&mut self, block: &mut Buf)
-        requires ready { IsReadyFor (replies_for kinds.Line self.old.load.now.lines) self.old }
-        requires on { self.old.on ≡ true }
-        ensures { Gives (replies_for kinds.Line self.old.load.now.lines) self.old self.new }
+    /// A step or a command that stops the recorder: it, and the packet that says so.
+    fn stop<P: Describes>(&mut self, head: Origin, desc: &P, block: &mut Buf)
+        requires start { is_start self.old.load.now head ≡ false }
+        requires stop { is_stop self.old.load.now head ≡ true }
+        requires over { IsOver P.kept P.lines P.clock self.old.load.now desc.now }
+        requires ready { IsReadyFor (group_of self.old.load.now head) self.old }
+        ensures kept { KeepsHead head self.old self.new }
+        ensures goes { GoesFor (head ∷ []) (group_of self.old.load.now head) self.old self.new }
     {
-        let count = self.load.lines().len() as u32;
-        for index in 0..count {
-            self.reply(Kind::Line, index, block);
-        }
-    }
-
-    /// The tasks that are there from the beginning, and their stacks.
-    fn tasks(&mut self, block: &mut Buf)
-        requires ready { IsReadyFor (task_replies self.old.load.now) self.old }
-        requires on { self.old.on ≡ true }
-        ensures { Gives (task_replies self.old.load.now) self.old self.new }
-    {
-        let count = self.load.tasks().len() as u32;
-        for index in 0..count {
-            self.reply(Kind::Task, index, block);
-            self.reply(Kind::Stack, index, block);
-        }
-    }
-
-    /// The system's frequencies and how it names its tasks, and the lines that describe it.
-    fn init(&mut self, block: &mut Buf)
-        requires ready { IsReadyFor (init_replies self.old.load.now) self.old }
-        requires on { self.old.on ≡ true }
-        ensures { Gives (init_replies self.old.load.now) self.old self.new }
-    {
-        self.reply(Kind::Init, 0, block);
-        self.lines(block);
-    }
-
-    /// What a start answers: ten zeros, and what describes the target.
-    fn describe(&mut self, block: &mut Buf)
-        requires ready { IsReadyFor (start_answers self.old.load.now) self.old }
-        requires on { self.old.on ≡ true }
-        ensures { Gives (start_answers self.old.load.now) self.old self.new }
-    {
-        self.sync();
-        self.reply(Kind::TraceStart, 0, block);
-        self.init(block);
-        self.reply(Kind::Systime, 0, block);
-        self.tasks(block);
-        self.reply(Kind::ModuleCount, 0, block);
-    }
-
-    /// A step that starts the recorder: the step, and its answers.
-    pub fn start(&mut self, writer: u32, step: u32, block: &mut Buf)
-        requires act { act_of self.old.load.now writer step ≡ Some acts.Start }
-        requires ready { IsReadyFor (group_of self.old.load.now (Call writer step)) self.old }
-        ensures kept { KeepsStep (Call writer step) self.old self.new }
-        ensures goes { GoesFor (Call writer step ∷ [])
-            (group_of self.old.load.now (Call writer step)) self.old self.new }
-    {
-        self.note(Origin::Call { writer, step }, Outcome::Handled);
-        self.on = true;
-        self.describe(block);
-    }
-
-    /// A step that stops the recorder: the step, and the packet that says so.
-    pub fn stop(&mut self, writer: u32, step: u32, block: &mut Buf)
-        requires act { act_of self.old.load.now writer step ≡ Some acts.Stop }
-        requires ready { IsReadyFor (group_of self.old.load.now (Call writer step)) self.old }
-        ensures kept { KeepsStep (Call writer step) self.old self.new }
-        ensures goes { GoesFor (Call writer step ∷ [])
-            (group_of self.old.load.now (Call writer step)) self.old self.new }
-    {
-        self.note(Origin::Call { writer, step }, Outcome::Handled);
+        self.handle(head, self.on);
         let reply = Origin::Reply {
             kind: Kind::TraceStop,
             index: 0,
         };
-        self.packet(reply, block);
+        self.packet(reply, desc, block);
         self.on = false;
     }
 
     /// A step that records an event.
     #[inline(always)]
-    fn event(&mut self, writer: u32, step: u32, block: &mut Buf) -> Answer
+    fn event<P: Describes>(&mut self, writer: u32, step: u32, desc: &P, block: &mut Buf) -> Answer
         requires formed { IsFormed self.old.load.now (Call writer step) }
+        requires over { IsOver P.kept P.lines P.clock self.old.load.now desc.now }
         requires ready { IsReadyFor (group_of self.old.load.now (Call writer step)) self.old }
-        ensures kept { KeepsStep (Call writer step) self.old self.new }
+        ensures kept { KeepsHead (Call writer step) self.old self.new }
         ensures goes { GoesFor (Call writer step ∷ [])
             (group_of self.old.load.now (Call writer step)) self.old self.new }
         ensures answered { (outcome : Outcome)
             × Gains self.old.journal.items self.new.journal.items (Call writer step) outcome
             × (result ≡ answer_of outcome) }
     {
-        let outcome = self.packet(Origin::Call { writer, step }, block);
+        let outcome = self.packet(Origin::Call { writer, step }, desc, block);
         Answer::of(outcome)
     }
 
     /// The next step of a writer's script, whose ticks have passed: it records what it says.
     #[inline(always)]
-    pub fn take(&mut self, writer: u32, place: u32, step: &Step, block: &mut Buf) -> Answer
+    pub fn take<P: Describes>(
+        &mut self,
+        writer: u32,
+        place: u32,
+        step: &Step,
+        desc: &P,
+        block: &mut Buf,
+    ) -> Answer
         requires step { step_of self.old.load.now writer place ≡ Some step.now }
         requires act { IsStepAct step.now.act }
+        requires over { IsOver P.kept P.lines P.clock self.old.load.now desc.now }
         requires ready { IsReadyFor (group_of self.old.load.now (Call writer place)) self.old }
-        ensures kept { KeepsStep (Call writer place) self.old self.new }
+        ensures kept { KeepsHead (Call writer place) self.old self.new }
         ensures goes { GoesFor (Call writer place ∷ [])
             (group_of self.old.load.now (Call writer place)) self.old self.new }
         ensures answered { IsAnswered self.old.load.now self.old.journal.items
             self.new.journal.items (Call writer place) result }
     {
+        let call = Origin::Call {
+            writer,
+            step: place,
+        };
         match &step.act {
-            Act::Event(_) => self.event(writer, place, block),
+            Act::Event(_) => self.event(writer, place, desc, block),
             Act::Start => {
-                self.start(writer, place, block);
+                self.start(call, desc, block);
                 Answer::Ran
             }
             Act::Stop => {
-                self.stop(writer, place, block);
+                self.stop(call, desc, block);
                 Answer::Ran
             }
+        }
+    }
+
+    /// Does what the host asks (UM08027, host commands).
+    fn command<P: Describes>(&mut self, command: Command, desc: &P, block: &mut Buf)
+        requires over { IsOver P.kept P.lines P.clock self.old.load.now desc.now }
+        requires ready { IsReadyFor (group_of self.old.load.now
+            (origins.Command command.byte command.param)) self.old }
+        ensures kept { KeepsHead (origins.Command command.byte command.param) self.old self.new }
+        ensures goes { GoesFor (origins.Command command.byte command.param ∷ [])
+            (group_of self.old.load.now (origins.Command command.byte command.param))
+            self.old self.new }
+    {
+        let Command { byte, param } = command;
+        let head = Origin::Command { byte, param };
+        match byte {
+            1 => self.start(head, desc, block),
+            2 => self.stop(head, desc, block),
+            _ => {
+                self.handle(head, self.on);
+                self.answer(command, desc, block);
+            }
+        }
+    }
+
+    /// Does what the host asks, if a command was found.
+    #[inline(always)]
+    pub fn obey<P: Describes>(&mut self, found: Option<Command>, desc: &P, block: &mut Buf)
+        requires over { IsOver P.kept P.lines P.clock self.old.load.now desc.now }
+        requires ready { IfSome found (λ command. IsReadyFor (group_of self.old.load.now
+            (origins.Command command.byte command.param)) self.old) }
+        ensures { Obeys found self.old self.new }
+    {
+        if let Some(command) = found {
+            self.command(command, desc, block);
         }
     }
 }

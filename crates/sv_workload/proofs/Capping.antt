@@ -171,6 +171,22 @@ task_numbers line e fit =
     (low_kept (keyword.Setup setup.Task) line.words refl
     (in_ranges line (keyword.Setup setup.Task) e fit))
 
+-- of a command
+pub command_numbers : (line : Line) → line.keyword ≡ keyword.Setup setup.Command → IsFit line
+    → map capped (numbers_of line) ≡ numbers_of line
+command_numbers line e fit =
+    subst (λ (k : Keyword). IsKept k line.words) (sym e)
+    (low_kept (keyword.Setup setup.Command) line.words refl
+    (in_ranges line (keyword.Setup setup.Command) e fit))
+
+-- of a module
+pub module_numbers : (line : Line) → line.keyword ≡ keyword.Setup setup.Module → IsFit line
+    → map capped (numbers_of line) ≡ numbers_of line
+module_numbers line e fit =
+    subst (λ (k : Keyword). IsKept k line.words) (sym e)
+    (low_kept (keyword.Setup setup.Module) line.words refl
+    (in_ranges line (keyword.Setup setup.Module) e fit))
+
 -- of a line of the schedule, where the first is low
 pub turn_numbers : (line : Line) (word : TurnWord) → line.keyword ≡ keyword.Turn word → IsFit line
     → number line 0 < 2 ^ 32 → map capped (numbers_of line) ≡ numbers_of line

@@ -1,12 +1,12 @@
 -- The first check that a line fails.
-use Rattle.std.proofs.Common.{◌≡◌, Bool, true, false, cond, ◌&&◌, List, ◌∷◌, Option, Some, None}
+use Rattle.std.proofs.Common.{◌≡◌, Bool, true, false, cond, List, ◌∷◌, Option, Some, None}
 use Rattle.std.proofs.Common.{refl, sym, ap, ◌∙◌}
 use Rattle.std.specs.Prelude.{find, option_map}
 use Rattle.std.specs.Option.{option_or}
-use Rattle.std.proofs.lemmas.Bool.{false≢true, false_from_ne_true}
+use Rattle.std.proofs.lemmas.Bool.{false≢true}
 use Rattle.std.proofs.lemmas.List.Folds.{find-append}
 use Rattle.sv_workload.specs.declared.fault.LineFault.{LineFault}
-use Rattle.sv_workload.specs.declared.keyword.SetupWord.TheVariants.{Ring, Module}
+use Rattle.sv_workload.specs.declared.keyword.SetupWord.TheVariants.{Ring, Command}
 use Rattle.sv_workload.specs.declared.keyword.ActWord.TheVariants.{Start}
 use Rattle.sv_workload.specs.declared.keyword.TurnWord.TheVariants.{Step}
 use Rattle.sv_workload.specs.declared.keyword.Keyword.{Keyword}
@@ -14,11 +14,9 @@ use Rattle.sv_workload.specs.declared.keyword.Keyword.TheVariants.{Setup, Writer
 use Rattle.sv_workload.specs.declared.keyword.Keyword.TheVariants.{Turn, Unknown}
 use Rattle.sv_workload.specs.Keywords.{is_same}
 use Rattle.sv_workload.specs.Line.{Line}
-use Rattle.sv_workload.specs.Meaning.{number, modules_of}
-use Rattle.sv_workload.specs.Checks.{Check, is_full_for, has_no_room, fault_of}
-use Rattle.sv_workload.specs.Draft.{is_later}
+use Rattle.sv_workload.specs.Checks.{Check, fault_of}
 use Rattle.sv_workload.specs.Checking.{first_of, form_checks, later_checks, is_no_keyword}
-use Rattle.sv_workload.proofs.Keywords.{same_keyword}
+use Rattle.sv_workload.specs.Checking.{is_command}
 
 pub no_keyword : (k : Keyword) → is_no_keyword k ≡ is_same Unknown k
 no_keyword Unknown = refl
@@ -31,18 +29,17 @@ no_keyword Schedule = refl
 no_keyword (Turn Step) = refl
 no_keyword (Turn other) = refl
 
--- a keyword that lines can have by now isn't one that they can't
-pub not_later : (word k : Keyword) → is_later word ≡ true → is_later k ≡ false
-    → is_same word k ≡ false
-not_later word k later known =
-    false_from_ne_true (is_same word k)
-    (λ e. false≢true (sym known ∙ ap is_later (sym (same_keyword word k e)) ∙ later))
-
-pub room : (lines : List Line) (line : Line) → is_later line.keyword ≡ false
-    → has_no_room lines line ≡ false
-room lines line known =
-    ap (λ (b : Bool). b && is_full_for (modules_of lines) (number line 0))
-    (not_later (Setup Module) line.keyword refl known)
+pub command_keyword : (k : Keyword) → is_command k ≡ is_same (Setup Command) k
+command_keyword (Setup Command) = refl
+command_keyword (Setup Ring) = refl
+command_keyword (Setup other) = refl
+command_keyword Unknown = refl
+command_keyword Writer = refl
+command_keyword (Act Start) = refl
+command_keyword (Act other) = refl
+command_keyword Schedule = refl
+command_keyword (Turn Step) = refl
+command_keyword (Turn other) = refl
 
 module _ (check : Check) (fault : LineFault) (more : List (Check × LineFault)) (lines : List Line)
     (line : Line) where

@@ -1,10 +1,10 @@
 -- What a step line that fits says, and the step that it makes.
 use Rattle.std.proofs.Common.{◌≡◌, ℕ, ◌-◌, ◌^◌, ◌≤◌, Bool, true, false, cond, ◌&&◌, not, nat_le}
-use Rattle.std.proofs.Common.{List, [], ◌∷◌, length, take, map, min, get_or, Option, Some, None}
+use Rattle.std.proofs.Common.{◌+◌, List, [], ◌∷◌, length, take, map, min, get_or, Option, Some, None}
 use Rattle.std.proofs.Common.{refl, sym, ap, subst, ◌∙◌, arith}
-use Rattle.std.specs.Prelude.{unwrap_or, option_and_then, drop, ◌<◌}
+use Rattle.std.specs.Prelude.{unwrap_or, option_and_then, ◌<◌}
 use borrow.Author.Tests.{ltb-true}
-use Rattle.std.specs.List.{list_all, join_with_byte}
+use Rattle.std.specs.List.{list_all}
 use Rattle.std.specs.Option.{option_map_or}
 use Rattle.std.proofs.Math.Nat.{min-eq_left, min-le_left}
 use Rattle.std.proofs.lemmas.Bool.{and_parts, leb-true, not-false}
@@ -71,19 +71,29 @@ text_most line word most e some fit =
     leb-true (length text) most
     (and_parts (nat_le (length text) most) (list_all is_printable text) (not-false _ good)).0
 
--- the name of a task is not empty
-pub task_named : (line : Line) → line.keyword ≡ keyword.Setup setup.Task → IsFit line
-    → 1 ≤ length (text_of line)
-task_named line e fit =
-    let shaped : (list_all is_word (take 5 line.words) && is_word
-    (join_with_byte 32 (drop 5 line.words))) ≡ true = not-false _ (rw e at fit.shape) in
-    let some : 0 < length (join_with_byte 32 (drop 5 line.words)) = ltb-true 0
-    (length (join_with_byte 32 (drop 5 line.words)))
-    (and_parts (list_all is_word (take 5 line.words))
-    (is_word (join_with_byte 32 (drop 5 line.words))) shaped).1 in
-    subst (λ (k : Keyword). 1 ≤ length
-    (join_with_byte 32 (drop (length (form_of k).numbers) line.words))) (sym e)
-    (omega (arith, some))
+-- the text that a form wants is not empty
+pub text_some : (line : Line) (word : Keyword) (most : ℕ) → line.keyword ≡ word
+    → (form_of word).text ≡ Some most → is_same (keyword.Setup setup.Command) word ≡ false
+    → IsFit line → 1 ≤ length (text_of line)
+text_some line word most e some other fit =
+    let text = text_of line in
+    let n = length (form_of word).numbers in
+    let there : not (cond (is_same (keyword.Setup setup.Command) word) (fits_command line.words)
+    (fits (form_of word) line.words text)) ≡ false =
+    subst (λ (k : Keyword). not
+    (cond (is_same (keyword.Setup setup.Command) k) (fits_command line.words)
+    (fits (form_of k) line.words text)) ≡ false) e fit.shape in
+    let fitting : fits (form_of word) line.words text ≡ true = not-false _ (subst
+    (λ (b : Bool). not (cond b (fits_command line.words) (fits (form_of word) line.words text)) ≡
+    false) other there) in
+    let parts : (list_all is_word (take n line.words) && is_word text) ≡ true = subst
+    (λ (o : Option ℕ). option_map_or
+    (λ most. list_all is_word (take n line.words) && is_word text) o
+    (nat_le n (length line.words) && nat_le (length line.words)
+    (n + length (form_of word).more) && list_all is_word line.words) ≡ true) some fitting in
+    let filled : 0 < length text = ltb-true 0 (length text)
+    (and_parts (list_all is_word (take n line.words)) (is_word text) parts).1 in
+    omega (arith, filled)
 
 -- the numbers of a task are words
 pub task_words : (line : Line) → line.keyword ≡ keyword.Setup setup.Task → IsFit line

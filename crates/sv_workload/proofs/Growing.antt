@@ -7,11 +7,12 @@ use Rattle.std.specs.List.{list_any}
 use Rattle.std.specs.Option.{option_or}
 use Rattle.std.proofs.lemmas.List.{append-nil, nil_from_length}
 use Rattle.std.proofs.lemmas.List.Elements.{filter_map-append}
-use Rattle.std.proofs.lemmas.List.Folds.{list_all-append}
 use Rattle.std.proofs.lemmas.List.Sums.{length-filter}
 use Rattle.sv_workload.specs.declared.load.Step.{Step}
 use Rattle.sv_workload.specs.declared.load.Task.{Task}
 use Rattle.sv_workload.specs.declared.load.Action.{Action}
+use Rattle.sv_workload.specs.declared.load.Command.{Command}
+use Rattle.sv_desc.specs.Modules.{ModuleRow}
 use Rattle.sv_workload.specs.declared.keyword.SetupWord.{SetupWord}
 use Rattle.sv_workload.specs.declared.keyword.SetupWord.TheVariants.{Ring, Clock, Cpu, Base, Shift}
 use Rattle.sv_workload.specs.declared.keyword.SetupWord.TheVariants as setup
@@ -32,15 +33,20 @@ use Rattle.sv_workload.specs.Settings.{tell}
 use Rattle.sv_workload.specs.Scripts.{onto_last, over_scripts}
 use Rattle.sv_workload.specs.Meaning.{says, count, is_there, number, told, task_of, tasks_of}
 use Rattle.sv_workload.specs.Meaning.{action_of, act_of, with_shrunk, step_by, step_of, scripts_of}
-use Rattle.sv_workload.specs.Meaning.{base_of, shift_of}
+use Rattle.sv_workload.specs.Meaning.{base_of, shift_of, descriptions_of, modules_of, row_of}
+use Rattle.sv_workload.specs.Meaning.{commands_of, command_of}
 use Rattle.sv_workload.specs.Checks.{count_of, is_step, sets_identifiers, single_keywords}
-use Rattle.sv_workload.specs.Draft.{Draft, Stands, settings_of, is_later}
-use Rattle.sv_workload.proofs.OneMore.{counted_more, told_more, tasks_more, there_more, parts_by}
+use Rattle.sv_workload.specs.Draft.{Draft, Stands, settings_of}
+use Rattle.sv_workload.proofs.OneMore.{counted_more, told_more, tasks_more, those_more, there_more}
+use Rattle.sv_workload.proofs.OneMore.{parts_by}
 use Rattle.sv_workload.proofs.OneMore.{parts_begin, parts_same, parts_go_on, over_last, over_begun}
 use Rattle.sv_workload.proofs.Passed.{Passes}
 use Rattle.sv_workload.proofs.Ranged.{TellsOne}
 use Rattle.sv_workload.proofs.Standing.{scripts_count}
 use Rattle.sv_workload.proofs.Steady.{TellsNothing, act_goes_on, turn_tells_nothing, turn_goes_on}
+use Rattle.sv_workload.proofs.Steady.{DescribesNothing, act_describes_nothing}
+use Rattle.sv_workload.proofs.Steady.{turn_describes_nothing, task_describes_nothing}
+use Rattle.sv_workload.proofs.Steady.{writer_describes_nothing, schedule_describes_nothing}
 
 module _ (lines : List Line) (line : Line) where
   told_same : (word : SetupWord) → is_same (keyword.Setup word) line.keyword ≡ false → told word
@@ -174,6 +180,25 @@ or_false : (b : Bool) → b ≡ (b || false)
 or_false true = refl
 or_false false = refl
 
+-- what a line adds to what describes the target, and to what the host asks
+record Describes (old : Draft) (line : Line) (timed : Bool) (texts : List (List ℕ))
+    (modules : List ModuleRow) (commands : List Command) : Type 0 where
+  timed_is : timed ≡ (old.timed || says (keyword.Setup setup.Time) line)
+  texts_are : texts ≡ old.lines ++ descriptions_of (line ∷ [])
+  modules_are : modules ≡ old.modules ++ modules_of (line ∷ [])
+  commands_are : commands ≡ old.commands ++ commands_of (line ∷ [])
+
+-- most lines add nothing there
+undescribed : (old : Draft) (line : Line) → DescribesNothing line.keyword
+    → Describes old line old.timed old.lines old.modules old.commands
+undescribed old line nothing =
+    record {
+      timed_is = rw nothing.time (or_false old.timed);
+      texts_are = rw nothing.desc (sym (append-nil old.lines));
+      modules_are = rw nothing.modules (sym (append-nil old.modules));
+      commands_are = rw nothing.commands (sym (append-nil old.commands));
+    }
+
 module _ (old new : Draft) (lines : List Line) (line : Line) (stands : Stands old lines) where
   more : new.settings ≡ settings_of (lines ++ line ∷ [])
       → new.tasks ≡ old.tasks ++ tasks_of (line ∷ [])
@@ -184,10 +209,18 @@ module _ (old new : Draft) (lines : List Line) (line : Line) (stands : Stands ol
       (λ s. one_if (is_start_act s.act)) old.scripts + count (keyword.Act Start) (line ∷ [])
       → new.scheduled ≡ (old.scheduled || says keyword.Schedule line)
       → new.schedule ≡ old.schedule ++ filter_map action_of (line ∷ [])
-      → is_later line.keyword ≡ false
+      → Describes old line new.timed new.lines new.modules new.commands
       → Stands new (lines ++ line ∷ [])
-  more settings tasks scripts steps starts scheduled schedule now = record {
+  more settings tasks scripts steps starts scheduled schedule described = record {
     settings = settings;
+    timed = described.timed_is ∙ ap (λ (b : Bool). b || says (keyword.Setup setup.Time) line)
+        stands.timed ∙ sym (there_more (keyword.Setup setup.Time) lines line);
+    texts = described.texts_are ∙ ap (λ (l : List (List ℕ)). l ++ descriptions_of (line ∷ []))
+        stands.texts ∙ sym (those_more text_of (keyword.Setup setup.Desc) lines line);
+    modules = described.modules_are ∙ ap (λ (l : List ModuleRow). l ++ modules_of (line ∷ []))
+        stands.modules ∙ sym (those_more row_of (keyword.Setup setup.Module) lines line);
+    commands = described.commands_are ∙ ap (λ (l : List Command). l ++ commands_of (line ∷ []))
+        stands.commands ∙ sym (those_more command_of (keyword.Setup setup.Command) lines line);
     tasks = tasks ∙ ap (λ (l : List Task). l ++ tasks_of (line ∷ [])) stands.tasks ∙ sym
         (tasks_more lines line);
     scripts = scripts;
@@ -209,8 +242,6 @@ module _ (old new : Draft) (lines : List Line) (line : Line) (stands : Stands ol
         sym (there_more keyword.Schedule lines line);
     schedule = schedule ∙ ap (λ (l : List Action). l ++ filter_map action_of (line ∷ []))
         stands.schedule ∙ sym (filter_map-append action_of lines (line ∷ []));
-    later = list_all-append (λ (l : Line). not (is_later l.keyword)) lines (line ∷ []) ∙ rw
-        (stands.later, now) refl;
   }
 
 -- a line that tells a setting stands before the scripts
@@ -251,10 +282,11 @@ module _ (old : Draft) (lines : List Line) (line : Line) (stands : Stands old li
           refl in let d = same Shift refl in cc
       by Shift is now same = let a = same Ring refl in let b = same Clock refl in let c = same Cpu
           refl in let d = same Base refl in cc
-      by setup.Time is now same = absurd (let later : true ≡ false = is.now in cc)
-      by setup.Desc is now same = absurd (let later : true ≡ false = is.now in cc)
-      by setup.Module is now same = absurd (let later : true ≡ false = is.now in cc)
-      by setup.Command is now same = absurd (let later : true ≡ false = is.now in cc)
+      by setup.Time is now same = absurd (let other : true ≡ false = is.describes.time in cc)
+      by setup.Desc is now same = absurd (let other : true ≡ false = is.describes.desc in cc)
+      by setup.Module is now same = absurd (let other : true ≡ false = is.describes.modules in cc)
+      by setup.Command is now same = absurd (let other : true ≡ false = is.describes.commands in
+          cc)
       by setup.Task is now same = absurd (let task : true ≡ false = is.task in cc)
 
   pub stands-setting : (word : SetupWord) → TellsOne word → line.keyword ≡ keyword.Setup word →
@@ -278,7 +310,7 @@ module _ (old : Draft) (lines : List Line) (line : Line) (stands : Stands old li
       (still_none (no_writer word e) (rw (e, is.writer) refl))
       (omega (arith, steps)) (omega (arith, starts))
       (rw (e, is.schedule) (or_false old.scheduled)) (rw e (sym (append-nil old.schedule)))
-      (rw e is.now)
+      (undescribed old line (subst DescribesNothing (sym e) is.describes))
 
   pub stands-task : line.keyword ≡ keyword.Setup setup.Task → Stands
       (record old { tasks = old.tasks ++ task_of line ∷ [] }) (lines ++ line ∷ [])
@@ -292,7 +324,8 @@ module _ (old : Draft) (lines : List Line) (line : Line) (stands : Stands old li
       (rw e refl)
       (stands.scripts ∙ sym (scripts_same lines line tells (rw e refl) (rw e refl)))
       (omega (arith, steps)) (omega (arith, starts))
-      (rw e (or_false old.scheduled)) (rw e (sym (append-nil old.schedule))) (rw e refl)
+      (rw e (or_false old.scheduled)) (rw e (sym (append-nil old.schedule)))
+      (undescribed old line (subst DescribesNothing (sym e) task_describes_nothing))
 
   pub stands-writer : line.keyword ≡ keyword.Writer → Stands
       (record old { scripts = old.scripts ++ [] ∷ [] }) (lines ++ line ∷ [])
@@ -313,7 +346,8 @@ module _ (old : Draft) (lines : List Line) (line : Line) (stands : Stands old li
         over_begun (λ (s : Step). one_if (is_start_act s.act))
             old.scripts,
       ))
-      (rw e (or_false old.scheduled)) (rw e (sym (append-nil old.schedule))) (rw e refl)
+      (rw e (or_false old.scheduled)) (rw e (sym (append-nil old.schedule)))
+      (undescribed old line (subst DescribesNothing (sym e) writer_describes_nothing))
 
   -- a step has a writer
   pub a_writer_before : (word : ActWord) → line.keyword ≡ keyword.Act word → 0 < length old.scripts
@@ -365,7 +399,7 @@ module _ (old : Draft) (lines : List Line) (line : Line) (stands : Stands old li
             (λ (s : Step). one_if (is_start_act s.act)) step old.scripts some,
       ))
       (rw (e, on.schedule) (or_false old.scheduled)) (rw e (sym (append-nil old.schedule)))
-      (rw e refl)
+      (undescribed old line (subst DescribesNothing (sym e) (act_describes_nothing word)))
 
   pub stands-schedule : line.keyword ≡ keyword.Schedule → Stands (record old { scheduled = true })
       (lines ++ line ∷ [])
@@ -379,12 +413,13 @@ module _ (old : Draft) (lines : List Line) (line : Line) (stands : Stands old li
       (rw e (sym (append-nil old.tasks)))
       (stands.scripts ∙ sym (scripts_same lines line tells (rw e refl) (rw e refl)))
       (omega (arith, steps)) (omega (arith, starts))
-      (rw e (sym (or_true old.scheduled))) (rw e (sym (append-nil old.schedule))) (rw e refl)
+      (rw e (sym (or_true old.scheduled))) (rw e (sym (append-nil old.schedule)))
+      (undescribed old line (subst DescribesNothing (sym e) schedule_describes_nothing))
 
-  pub stands-turn : (word : TurnWord) (action : Action) → line.keyword ≡ keyword.Turn word →
-      is_later line.keyword ≡ false → Some action ≡ action_of line
-      → Stands (record old { schedule = old.schedule ++ action ∷ [] }) (lines ++ line ∷ [])
-  stands-turn word action e now is =
+  pub stands-turn : (word : TurnWord) (action : Action) → line.keyword ≡ keyword.Turn word → Some
+      action ≡ action_of line → Stands
+      (record old { schedule = old.schedule ++ action ∷ [] }) (lines ++ line ∷ [])
+  stands-turn word action e is =
       let on = turn_goes_on word in
       let tells : TellsNothing line.keyword = subst TellsNothing (sym e) (turn_tells_nothing word)
       in
@@ -395,4 +430,77 @@ module _ (old : Draft) (lines : List Line) (line : Line) (stands : Stands old li
       (rw (e, on.2) (sym (append-nil old.tasks)))
       (stands.scripts ∙ sym (scripts_same lines line tells (rw (e, on.0) refl) (rw e refl)))
       (omega (arith, steps)) (omega (arith, starts))
-      (rw (e, on.1) (or_false old.scheduled)) (rw (← is) refl) now
+      (rw (e, on.1) (or_false old.scheduled)) (rw (← is) refl)
+      (undescribed old line (subst DescribesNothing (sym e) (turn_describes_nothing word)))
+
+-- a line that describes the target, or says what the host asks
+module _ (old : Draft) (lines : List Line) (line : Line) (stands : Stands old lines)
+    (passed : Passes lines line) where
+  -- it changes nothing else
+  described : (word : SetupWord) (timed : Bool) (texts : List (List ℕ)) (modules : List ModuleRow)
+      (commands : List Command) → line.keyword ≡ keyword.Setup word
+      → TellsNothing (keyword.Setup word)
+      → is_same (keyword.Setup setup.Task) (keyword.Setup word) ≡ false
+      → is_same keyword.Writer (keyword.Setup word) ≡ false
+      → is_same (keyword.Act Start) (keyword.Setup word) ≡ false
+      → is_same keyword.Schedule (keyword.Setup word) ≡ false
+      → Describes old line timed texts modules commands
+      → Stands (record old
+      { timed = timed; lines = texts; modules = modules; commands = commands })
+      (lines ++ line ∷ [])
+  described word timed texts modules commands e nothing task writer start schedule here =
+      let tells : TellsNothing line.keyword = subst TellsNothing (sym e) nothing in
+      let steps : count_of is_step (line ∷ []) ≡ 0 = rw e refl in
+      let starts : count (keyword.Act Start) (line ∷ []) ≡ 0 = rw (e, start) refl in
+      more old (record old
+      { timed = timed; lines = texts; modules = modules; commands = commands }) lines line stands
+      (stands.settings ∙ sym (settings_same lines line tells))
+      (rw (e, task) (sym (append-nil old.tasks)))
+      (stands.scripts ∙ sym (scripts_same lines line tells (rw (e, writer) refl) (rw e refl)))
+      (omega (arith, steps)) (omega (arith, starts))
+      (rw (e, schedule) (or_false old.scheduled)) (rw e (sym (append-nil old.schedule))) here
+
+  pub stands-time : line.keyword ≡ keyword.Setup setup.Time → Stands (record old { timed = true })
+      (lines ++ line ∷ [])
+  stands-time e = described setup.Time true old.lines old.modules old.commands e
+      (record { ring = refl; clock = refl; cpu = refl; base = refl; shift = refl }) refl refl refl
+      refl (record {
+        timed_is = rw e (sym (or_true old.timed));
+        texts_are = rw e (sym (append-nil old.lines));
+        modules_are = rw e (sym (append-nil old.modules));
+        commands_are = rw e (sym (append-nil old.commands));
+      })
+
+  pub stands-line : line.keyword ≡ keyword.Setup setup.Desc → Stands
+      (record old { lines = old.lines ++ text_of line ∷ [] }) (lines ++ line ∷ [])
+  stands-line e = described setup.Desc old.timed (old.lines ++ text_of line ∷ []) old.modules
+      old.commands e (record { ring = refl; clock = refl; cpu = refl; base = refl; shift = refl })
+      refl refl refl refl (record {
+        timed_is = rw e (or_false old.timed);
+        texts_are = rw e refl;
+        modules_are = rw e (sym (append-nil old.modules));
+        commands_are = rw e (sym (append-nil old.commands));
+      })
+
+  pub stands-module : line.keyword ≡ keyword.Setup setup.Module → Stands
+      (record old { modules = old.modules ++ row_of line ∷ [] }) (lines ++ line ∷ [])
+  stands-module e = described setup.Module old.timed old.lines (old.modules ++ row_of line ∷ [])
+      old.commands e (record { ring = refl; clock = refl; cpu = refl; base = refl; shift = refl })
+      refl refl refl refl (record {
+        timed_is = rw e (or_false old.timed);
+        texts_are = rw e (sym (append-nil old.lines));
+        modules_are = rw e refl;
+        commands_are = rw e (sym (append-nil old.commands));
+      })
+
+  pub stands-command : line.keyword ≡ keyword.Setup setup.Command → Stands
+      (record old { commands = old.commands ++ command_of line ∷ [] }) (lines ++ line ∷ [])
+  stands-command e = described setup.Command old.timed old.lines old.modules
+      (old.commands ++ command_of line ∷ []) e
+      (record { ring = refl; clock = refl; cpu = refl; base = refl; shift = refl }) refl refl refl
+      refl (record {
+        timed_is = rw e (or_false old.timed);
+        texts_are = rw e (sym (append-nil old.lines));
+        modules_are = rw e (sym (append-nil old.modules));
+        commands_are = rw e refl;
+      })

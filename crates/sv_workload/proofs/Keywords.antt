@@ -1,10 +1,8 @@
 -- Keywords are told apart by how they are spelled, and lines are counted by them.
-use Rattle.std.proofs.Common.{◌≡◌, ℕ, Bool, true, false, not, cond, List, [], ◌∷◌, ◌++◌, refl, sym}
-use Rattle.std.proofs.Common.{ap, ◌∙◌, arith}
+use Rattle.std.proofs.Common.{◌≡◌, ℕ, Bool, true, false, cond, List, [], ◌∷◌, ◌++◌, refl, sym}
+use Rattle.std.proofs.Common.{ap, ◌∙◌}
 use Rattle.std.specs.Prelude.{map, find, unwrap_or, bytes_eq, length, ◌==◌, Some}
-use Rattle.std.specs.List.{list_all}
-use Rattle.std.proofs.lemmas.Bool.{and_parts, false_from_ne_true, eq-eqb}
-use Rattle.std.proofs.lemmas.List.Sums.{sum_by-cons}
+use Rattle.std.proofs.lemmas.Bool.{false_from_ne_true, eq-eqb}
 use Rattle.std.proofs.lemmas.Slice.Eq.{bytes_eq-Decides}
 use Rattle.sv_workload.specs.declared.keyword.SetupWord.TheVariants.{Ring, Clock, Cpu, Base, Shift}
 use Rattle.sv_workload.specs.declared.keyword.SetupWord.TheVariants.{Time, Desc, Task, Module}
@@ -19,9 +17,6 @@ use Rattle.sv_workload.specs.declared.keyword.Keyword.{Keyword}
 use Rattle.sv_workload.specs.declared.keyword.Keyword.TheVariants.{Setup, Writer, Act, Schedule}
 use Rattle.sv_workload.specs.declared.keyword.Keyword.TheVariants.{Turn, Unknown}
 use Rattle.sv_workload.specs.Keywords.{step_keywords, spelling, is_same, keyword_among, of_length}
-use Rattle.sv_workload.specs.Line.{Line}
-use Rattle.sv_workload.specs.Meaning.{says, count}
-use Rattle.sv_workload.specs.Draft.{is_later}
 
 -- all that can be spelled
 abbrev every_keyword : List Keyword
@@ -75,21 +70,9 @@ same_keyword a b e =
     sym (read_back a) ∙ ap (keyword_among every_keyword)
     ((bytes_eq-Decides (spelling a) (spelling b)).0 e) ∙ read_back b
 
--- a keyword that no line can have yet isn't counted
-pub none_later : (k : Keyword) → is_later k ≡ true → (lines : List Line)
-    → list_all (λ line. not (is_later line.keyword)) lines ≡ true → count k lines ≡ 0
-none_later k later [] all = refl
-none_later k later (line ∷ lines) all =
-    let parts = and_parts (not (is_later line.keyword))
-    (list_all (λ line. not (is_later line.keyword)) lines) all in
-    let other : says k line ≡ false = false_from_ne_true (says k line) (λ e.
-    let here : is_later line.keyword ≡ true = ap is_later (sym (same_keyword k line.keyword e)) ∙
-    later in
-    let there : not (is_later line.keyword) ≡ false = ap not here in
-    absurd (let n : true ≡ false = sym parts.0 ∙ there in cc)) in
-    let rest : count k lines ≡ 0 = none_later k later lines parts.1 in
-    let here : cond {A = ℕ} (says k line) 1 0 ≡ 0 = ap (λ (b : Bool). cond {A = ℕ} b 1 0) other in
-    omega (arith, sum_by-cons (λ line. cond {A = ℕ} (says k line) 1 0) line lines, here, rest)
+-- keywords that are not one are spelled in two ways
+pub differs : (a b : Keyword) → (a ≡ b → ⊥) → is_same a b ≡ false
+differs a b other = false_from_ne_true (is_same a b) (λ e. other (same_keyword a b e))
 
 -- a word spells no keyword of another length
 pub among_of_length : (keywords : List Keyword) (word : List ℕ)

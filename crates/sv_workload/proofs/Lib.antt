@@ -1,6 +1,7 @@
 pub mod examples
 pub mod Cuts
 pub mod Capping
+pub mod Commands
 pub mod Digits
 pub mod Keywords
 pub mod Faulted

@@ -8,6 +8,7 @@ use Rattle.std.specs.Option.{is_some, option_map_or}
 use Rattle.std.proofs.Math.Bool.{or-false}
 use Rattle.std.proofs.lemmas.Bool.{and_parts, false≢true, leb-true}
 use Rattle.std.proofs.lemmas.Bool.Decides.{nat_tests}
+use Rattle.sv_desc.specs.Modules.{ModuleRow, is_full_for, offset_after}
 use Rattle.sv_workload.specs.declared.range.Range.{Range}
 use Rattle.sv_workload.specs.declared.keyword.SetupWord.TheVariants.{Ring, Clock, Cpu, Base, Shift}
 use Rattle.sv_workload.specs.declared.keyword.SetupWord.TheVariants.{Time, Desc, Task as a_task}
@@ -25,11 +26,12 @@ use Rattle.sv_workload.specs.Line.{Line}
 use Rattle.sv_workload.specs.Numbers.{capped}
 use Rattle.sv_workload.specs.Settings.{base_told, shift_told}
 use Rattle.sv_workload.specs.Meaning.{number, count, is_there, base_of, shift_of, tasks_of}
+use Rattle.sv_workload.specs.Meaning.{modules_of}
 use Rattle.sv_workload.specs.Checks.{is_within, are_within, has_bad_number, is_aligned}
 use Rattle.sv_workload.specs.Checks.{is_unaligned, is_repeated, has_no_writer, single_keywords}
+use Rattle.sv_workload.specs.Checks.{has_no_room}
 use Rattle.sv_workload.specs.Draft.{Draft, Stands}
-use Rattle.sv_workload.specs.Checking.{repeats, lacks_writer}
-use Rattle.sv_workload.proofs.Keywords.{none_later}
+use Rattle.sv_workload.specs.Checking.{repeats, lacks_writer, lacks_room}
 use Rattle.sv_workload.proofs.Standing.{told_there, scripts_count}
 
 -- an identifier has 32 bits
@@ -125,9 +127,7 @@ module _ (line : Line) (good : has_bad_number [] line ≡ false) where
         ∙ sym (or-false (is_there (Setup Base) lines))
     repeats_by (Setup Shift) id n same = ap (λ t. is_some t.shift) s.settings ∙ told_there Shift
         lines ∙ sym (or-false (is_there (Setup Shift) lines))
-    repeats_by (Setup Time) id n same = sym
-        (or-false (is_there (Setup Time) lines) ∙ ap (nat_lt 0)
-        (none_later (Setup Time) refl lines s.later))
+    repeats_by (Setup Time) id n same = s.timed ∙ sym (or-false (is_there (Setup Time) lines))
     repeats_by (Setup Desc) id n same = refl
     repeats_by (Setup Module) id n same = refl
     repeats_by (Setup Command) id n same = refl
@@ -166,3 +166,31 @@ pub no_writer : (draft : Draft) (lines : List Line) (line : Line) → Stands dra
     → length draft.scripts ≤ 16
     → lacks_writer draft line.keyword (capped (number line 0)) ≡ has_no_writer lines line
 no_writer draft lines line s few = lacks_by draft lines s few line.keyword (number line 0)
+
+-- modules: a number above 32 bits is too large by far, whether it is capped or not
+
+passes_end : (offset n : ℕ) → nat_lt 16384 (offset + capped n) ≡ nat_lt 16384 (offset + n)
+passes_end offset n = grind (arith, nat_tests)
+
+full_capped : (modules : List ModuleRow) (n : ℕ) → is_full_for modules (capped n) ≡ is_full_for
+    modules n
+full_capped modules n =
+    ap (λ (b : Bool). nat_le 64 (length modules) || b) (passes_end (offset_after modules) n)
+
+lacks_room_by : (draft : Draft) (lines : List Line) (s : Stands draft lines) (k : Keyword) (n : ℕ)
+    → lacks_room draft k (capped n) ≡ (is_same (Setup Module) k && is_full_for (modules_of lines) n)
+lacks_room_by draft lines s (Setup Module) n =
+    full_capped draft.modules n ∙ ap (λ (rows : List ModuleRow). is_full_for rows n) s.modules
+lacks_room_by draft lines s (Setup Ring) n = refl
+lacks_room_by draft lines s (Setup other) n = refl
+lacks_room_by draft lines s (Turn Step) n = refl
+lacks_room_by draft lines s (Turn other) n = refl
+lacks_room_by draft lines s Writer n = refl
+lacks_room_by draft lines s (Act Run) n = refl
+lacks_room_by draft lines s (Act other) n = refl
+lacks_room_by draft lines s Schedule n = refl
+lacks_room_by draft lines s Unknown n = refl
+
+pub no_room : (draft : Draft) (lines : List Line) (line : Line) → Stands draft lines
+    → lacks_room draft line.keyword (capped (number line 0)) ≡ has_no_room lines line
+no_room draft lines line s = lacks_room_by draft lines s line.keyword (number line 0)

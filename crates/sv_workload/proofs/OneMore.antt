@@ -41,12 +41,16 @@ told_more word lines line =
     mapped f None b = refl
     mapped f (Some x) b = refl
 
+-- what each line of one keyword gives
+pub those_more : {X : Type 0} (f : Line → X) (k : Keyword) (lines : List Line) (line : Line)
+    → map f (those k (lines ++ line ∷ [])) ≡ map f (those k lines) ++ map f (those k (line ∷ []))
+those_more f k lines line =
+    ap (map f) (filter-append (says k) lines (line ∷ []))
+    ∙ map-append f (those k lines) (those k (line ∷ []))
+
 pub tasks_more : (lines : List Line) (line : Line)
     → tasks_of (lines ++ line ∷ []) ≡ tasks_of lines ++ tasks_of (line ∷ [])
-tasks_more lines line =
-    ap (map task_of) (filter-append (says (keyword.Setup setup.Task)) lines (line ∷ []))
-    ∙ map-append task_of (those (keyword.Setup setup.Task) lines)
-    (those (keyword.Setup setup.Task) (line ∷ []))
+tasks_more lines line = those_more task_of (keyword.Setup setup.Task) lines line
 
 -- what no line says yet is there once a line says it
 pub there_more : (k : Keyword) (lines : List Line) (line : Line)

@@ -9,7 +9,6 @@ use Rattle.sv_workload.specs.declared.load.Step.{Step}
 use Rattle.sv_workload.specs.declared.range.Range.{Range}
 use Rattle.sv_workload.specs.declared.keyword.SetupWord.{SetupWord}
 use Rattle.sv_workload.specs.declared.keyword.SetupWord.TheVariants.{Ring, Clock, Cpu, Base, Shift}
-use Rattle.sv_workload.specs.declared.keyword.SetupWord.TheVariants.{Time, Desc, Module, Command}
 use Rattle.sv_workload.specs.declared.keyword.SetupWord.TheVariants as setup
 use Rattle.sv_workload.specs.declared.keyword.ActWord.{ActWord}
 use Rattle.sv_workload.specs.declared.keyword.ActWord.TheVariants.{Start, Stop, Nop, Isr, IsrExit}
@@ -34,11 +33,14 @@ use Rattle.sv_workload.specs.Meaning.{says, count, number, act_of, with_shrunk, 
 use Rattle.sv_workload.specs.Meaning.{shift_of}
 use Rattle.sv_workload.specs.Checks.{count_of, is_step, is_turn, is_all_there, is_within}
 use Rattle.sv_workload.specs.Checks.{are_within, fits, fits_command}
-use Rattle.sv_workload.specs.Draft.{Draft, Stands, is_later}
+use Rattle.sv_workload.specs.Draft.{Draft, Stands}
 use Rattle.sv_workload.proofs.Capping.{number_or_0, numbers_behind, capped_low, in_ranges}
+use Rattle.sv_workload.proofs.Capping.{first_capped, module_numbers}
 use Rattle.sv_workload.proofs.Passed.{Passes}
 use Rattle.sv_workload.proofs.Ranged.{TellsOne}
-use Rattle.sv_workload.proofs.Standing.{tasks_count, scripts_count, turns_count}
+use Rattle.sv_workload.proofs.Standing.{tasks_count, scripts_count, turns_count, lines_count}
+use Rattle.sv_workload.proofs.Standing.{commands_count}
+use Rattle.sv_desc.specs.Modules.{ModuleRow, is_full_for}
 use Rattle.sv_workload.proofs.Growing.{neither, start_word, stands-setting}
 
 pub fit_of : (lines : List Line) (line : Line) → Passes lines line → IsFit line
@@ -47,6 +49,10 @@ fit_of lines line passed =
 
 fewer : (limit n : ℕ) → nat_le limit n ≡ false → n < limit
 fewer limit n e = omega (arith, leb-false limit n e)
+
+second_false : (a b : Bool) → a ≡ true → (a && b) ≡ false → b ≡ false
+second_false true b t e = e
+second_false false b t e = cc
 
 -- what is left of the limits after lines for a step with this word
 acts_left : (lines : List Line) (word : ActWord) → is_all_there lines (keyword.Act word) ≡ false
@@ -90,6 +96,25 @@ module _ (old : Draft) (lines : List Line) (line : Line) (stands : Stands old li
       let left : count (keyword.Setup setup.Task) lines < 32 = fewer 32
       (count (keyword.Setup setup.Task) lines) (rw e at passed.few) in
       omega (arith, left, ap length stands.tasks, tasks_count lines)
+
+  pub room_for_line : line.keyword ≡ keyword.Setup setup.Desc → length old.lines < 4
+  room_for_line e =
+      let left : count (keyword.Setup setup.Desc) lines < 4 = fewer 4
+      (count (keyword.Setup setup.Desc) lines) (rw e at passed.few) in
+      omega (arith, left, ap length stands.texts, lines_count lines)
+
+  pub room_for_command : line.keyword ≡ keyword.Setup setup.Command → length old.commands < 256
+  room_for_command e =
+      let left : count (keyword.Setup setup.Command) lines < 256 = fewer 256
+      (count (keyword.Setup setup.Command) lines) (rw e at passed.few) in
+      omega (arith, left, ap length stands.commands, commands_count lines)
+
+  pub room_for_module : line.keyword ≡ keyword.Setup setup.Module → is_full_for old.modules
+      (number line 0) ≡ false
+  room_for_module e =
+      let says_one : says (keyword.Setup setup.Module) line ≡ true = rw e refl in
+      ap (λ (rows : List ModuleRow). is_full_for rows (number line 0)) stands.modules ∙ second_false
+      _ _ says_one passed.room
 
   pub room_for_writer : line.keyword ≡ keyword.Writer → length old.scripts < 16
   room_for_writer e =
@@ -170,14 +195,14 @@ pub tells : (line : Line) (word : SetupWord) → IsFit line → TellsOne word
 tells line word fit is e =
     let range = between is.least is.most in
     let shape = subst (λ (k : Keyword). not
-    (cond (is_same (keyword.Setup Command) k) (fits_command line.words)
+    (cond (is_same (keyword.Setup setup.Command) k) (fits_command line.words)
     (fits (form_of k) line.words
     (join_with_byte 32 (drop (length (form_of k).numbers) line.words)))) ≡ false) e fit.shape in
     let fitting = subst (λ (b : Bool). not
     (cond b (fits_command line.words)
     (fits (form_of (keyword.Setup word)) line.words
     (join_with_byte 32 (drop (length (form_of (keyword.Setup word)).numbers) line.words)))) ≡
-    false) is.command shape in
+    false) is.describes.commands shape in
     let filled : nat_le 1 (length line.words) ≡ true = first_and _ _ _
     (subst (λ (f : Form). not
     (fits f line.words (join_with_byte 32 (drop (length f.numbers) line.words))) ≡ false)
@@ -200,6 +225,13 @@ tells line word fit is e =
       same = same;
     }
 
+-- the number of a module's events is kept as it is
+pub module_events : (line : Line) → line.keyword ≡ keyword.Setup setup.Module → IsFit line
+    → capped (number line 0) ≡ number line 0
+module_events line e fit =
+    sym (first_capped line (map capped (numbers_of line)) refl) ∙ ap
+    (λ (ns : List ℕ). get_or ns 0 0) (module_numbers line e fit)
+
 -- a draft with one more setting
 module _ (old : Draft) (lines : List Line) (line : Line) (stands : Stands old lines)
     (passed : Passes lines line) where
@@ -210,10 +242,6 @@ module _ (old : Draft) (lines : List Line) (line : Line) (stands : Stands old li
       subst (λ (n : ℕ). Stands (record old { settings = tell word n old.settings })
       (lines ++ line ∷ [])) (sym (tells line word (fit_of lines line passed) is e).same)
       (stands-setting old lines line stands passed word is e)
-
-second_false : (a b : Bool) → a ≡ true → (a && b) ≡ false → b ≡ false
-second_false true b t e = e
-second_false false b t e = cc
 
 -- a turn's writer is there
 pub less_than_writers : (old : Draft) (lines : List Line) (line : Line) → Stands old lines
@@ -242,8 +270,12 @@ module _ (old : Draft) (lines : List Line) (line : Line) (stands : Stands old li
   low_read : line.keyword ≡ keyword.Turn turn.Read → number line 0 < 2 ^ 32
   low_read e = low_in 1 65536 (number line 0) refl (read_inside line fit e)
 
-  pub low_turn : (word : TurnWord) → line.keyword ≡ keyword.Turn word → is_later line.keyword ≡
-      false → number line 0 < 2 ^ 32
-  low_turn turn.Step e now = low_step e
-  low_turn turn.Read e now = low_read e
-  low_turn turn.Send e now = absurd (let l : true ≡ false = (rw e at now) in cc)
+  -- the host's turn has no number
+  low_send : line.keyword ≡ keyword.Turn turn.Send → number line 0 < 2 ^ 32
+  low_send e = subst (λ (k : Keyword). get_or (numbers_behind k line.words) 0 0 < 2 ^ 32) (sym e)
+      (omega arith)
+
+  pub low_turn : (word : TurnWord) → line.keyword ≡ keyword.Turn word → number line 0 < 2 ^ 32
+  low_turn turn.Step e = low_step e
+  low_turn turn.Read e = low_read e
+  low_turn turn.Send e = low_send e

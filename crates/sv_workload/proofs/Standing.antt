@@ -17,22 +17,35 @@ use Rattle.sv_workload.specs.declared.keyword.TurnWord.TheVariants.{Step, Read, 
 use Rattle.sv_workload.specs.declared.keyword.Keyword.{Keyword}
 use Rattle.sv_workload.specs.declared.keyword.Keyword.TheVariants.{Setup, Writer, Act, Schedule}
 use Rattle.sv_workload.specs.declared.keyword.Keyword.TheVariants.{Turn, Unknown}
-use Rattle.sv_workload.specs.Line.{Line, numbers_of}
+use Rattle.sv_workload.specs.Line.{Line, numbers_of, text_of}
 use Rattle.sv_workload.specs.Meaning.{says, those, count, is_there, number, told, task_of, tasks_of}
 use Rattle.sv_workload.specs.Meaning.{scripts_of, step_of, base_of, shift_of, action_by, action_of}
+use Rattle.sv_workload.specs.Meaning.{descriptions_of, modules_of, row_of, commands_of}
+use Rattle.sv_workload.specs.Meaning.{command_of}
 use Rattle.sv_workload.specs.Need.{one_if, is_start_act}
 use Rattle.sv_workload.specs.Scripts.{over_scripts}
 use Rattle.sv_workload.specs.Checks.{may_stand, is_misplaced, is_step, is_turn, count_of}
 use Rattle.sv_workload.specs.Checks.{is_all_there}
 use Rattle.sv_workload.specs.Draft.{Draft, Stands}
 use Rattle.sv_workload.specs.Checking.{has_place, has_all}
-use Rattle.sv_workload.proofs.Keywords.{none_later}
 
 -- as many as the lines that give them
 
 pub tasks_count : (lines : List Line) → length (tasks_of lines) ≡ count (Setup a_task) lines
 tasks_count lines =
     length-map (those (Setup a_task) lines) task_of ∙ length-filter (says (Setup a_task)) lines
+
+pub lines_count : (lines : List Line) → length (descriptions_of lines) ≡ count (Setup Desc) lines
+lines_count lines =
+    length-map (those (Setup Desc) lines) text_of ∙ length-filter (says (Setup Desc)) lines
+
+pub modules_count : (lines : List Line) → length (modules_of lines) ≡ count (Setup Module) lines
+modules_count lines =
+    length-map (those (Setup Module) lines) row_of ∙ length-filter (says (Setup Module)) lines
+
+pub commands_count : (lines : List Line) → length (commands_of lines) ≡ count (Setup Command) lines
+commands_count lines =
+    length-map (those (Setup Command) lines) command_of ∙ length-filter (says (Setup Command)) lines
 
 pub scripts_count : (lines : List Line) → length (scripts_of lines) ≡ count Writer lines
 scripts_count lines =
@@ -120,9 +133,9 @@ module _ (draft : Draft) (lines : List Line) (s : Stands draft lines) where
 
   pub too_many : (k : Keyword) → has_all draft k ≡ is_all_there lines k
   too_many (Setup a_task) = ap (nat_le 32) (ap length s.tasks ∙ tasks_count lines)
-  too_many (Setup Desc) = sym (ap (nat_le 4) (none_later (Setup Desc) refl lines s.later))
-  too_many (Setup Module) = sym (ap (nat_le 64) (none_later (Setup Module) refl lines s.later))
-  too_many (Setup Command) = sym (ap (nat_le 256) (none_later (Setup Command) refl lines s.later))
+  too_many (Setup Desc) = ap (nat_le 4) (ap length s.texts ∙ lines_count lines)
+  too_many (Setup Module) = ap (nat_le 64) (ap length s.modules ∙ modules_count lines)
+  too_many (Setup Command) = ap (nat_le 256) (ap length s.commands ∙ commands_count lines)
   too_many (Setup other) = refl
   too_many Writer = ap (nat_le 16) (ap length s.scripts ∙ scripts_count lines)
   too_many (Act Start) = ap (λ (b : Bool). b || nat_le 256

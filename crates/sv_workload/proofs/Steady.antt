@@ -13,6 +13,7 @@ use Rattle.sv_workload.specs.declared.keyword.TurnWord.TheVariants as turn
 use Rattle.sv_workload.specs.declared.keyword.Keyword.{Keyword}
 use Rattle.sv_workload.specs.declared.keyword.Keyword.TheVariants as keyword
 use Rattle.sv_workload.specs.Keywords.{is_same}
+use Rattle.sv_workload.proofs.Keywords.{differs}
 
 -- the keyword tells no setting
 pub record TellsNothing (k : Keyword) : Type 0 where
@@ -21,6 +22,42 @@ pub record TellsNothing (k : Keyword) : Type 0 where
   pub cpu : is_same (keyword.Setup Cpu) k ≡ false
   pub base : is_same (keyword.Setup Base) k ≡ false
   pub shift : is_same (keyword.Setup Shift) k ≡ false
+
+-- the keyword says nothing of what describes the target, or of the host
+pub record DescribesNothing (k : Keyword) : Type 0 where
+  pub time : is_same (keyword.Setup setup.Time) k ≡ false
+  pub desc : is_same (keyword.Setup setup.Desc) k ≡ false
+  pub modules : is_same (keyword.Setup setup.Module) k ≡ false
+  pub commands : is_same (keyword.Setup setup.Command) k ≡ false
+
+-- so no keyword does that is not one of four setup words
+pub describes_nothing : (k : Keyword) → (keyword.Setup setup.Time ≡ k → ⊥)
+    → (keyword.Setup setup.Desc ≡ k → ⊥) → (keyword.Setup setup.Module ≡ k → ⊥)
+    → (keyword.Setup setup.Command ≡ k → ⊥) → DescribesNothing k
+describes_nothing k time desc modules commands =
+    record {
+      time = differs (keyword.Setup setup.Time) k time;
+      desc = differs (keyword.Setup setup.Desc) k desc;
+      modules = differs (keyword.Setup setup.Module) k modules;
+      commands = differs (keyword.Setup setup.Command) k commands;
+    }
+
+pub task_describes_nothing : DescribesNothing (keyword.Setup setup.Task)
+task_describes_nothing = record { time = refl; desc = refl; modules = refl; commands = refl }
+
+pub writer_describes_nothing : DescribesNothing keyword.Writer
+writer_describes_nothing = record { time = refl; desc = refl; modules = refl; commands = refl }
+
+pub schedule_describes_nothing : DescribesNothing keyword.Schedule
+schedule_describes_nothing = record { time = refl; desc = refl; modules = refl; commands = refl }
+
+pub act_describes_nothing : (word : ActWord) → DescribesNothing (keyword.Act word)
+act_describes_nothing word =
+    describes_nothing (keyword.Act word) (λ e. cc) (λ e. cc) (λ e. cc) (λ e. cc)
+
+pub turn_describes_nothing : (word : TurnWord) → DescribesNothing (keyword.Turn word)
+turn_describes_nothing word =
+    describes_nothing (keyword.Turn word) (λ e. cc) (λ e. cc) (λ e. cc) (λ e. cc)
 
 -- the keyword begins no other part of the text and names no task
 pub record GoesOn (k : Keyword) : Type 0 where

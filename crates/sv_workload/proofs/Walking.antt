@@ -1,61 +1,21 @@
 -- A text, line by line: a draft stands for the lines so far, and none of them has a fault.
-use Rattle.std.proofs.Common.{◌≡◌, ℕ, ◌+◌, ◌≤◌, Bool, true, false, cond, not, List, [], ◌∷◌, ◌++◌}
+use Rattle.std.proofs.Common.{◌≡◌, ℕ, ◌+◌, ◌≤◌, true, false, not, List, [], ◌∷◌, ◌++◌}
 use Rattle.std.proofs.Common.{length, map, Option, Some, None, refl, sym, ap, ◌∙◌, append_assoc}
-use Rattle.std.proofs.Common.{nat_lt, arith}
-use Rattle.std.specs.Prelude.{filter, find, unwrap_or, bytes_eq, option_map, slice_index}
-use Rattle.std.specs.List.{list_all}
-use Rattle.std.specs.Char.{is_ascii_digit}
+use Rattle.std.proofs.Common.{arith}
+use Rattle.std.specs.Prelude.{filter, option_map}
 use Rattle.std.specs.Option.{option_or}
-use Rattle.std.proofs.lemmas.Bool.{and_parts}
-use Rattle.std.proofs.lemmas.List.{append-nil, length-append, map-append, nil_from_length}
+use Rattle.std.proofs.lemmas.List.{append-nil, length-append, map-append}
 use Rattle.std.proofs.lemmas.List.Elements.{filter-append}
-use Rattle.std.proofs.lemmas.List.Sums.{length-filter}
 use Rattle.sv_workload.specs.declared.fault.LineFault.{LineFault}
-use Rattle.sv_workload.specs.declared.keyword.SetupWord.TheVariants.{Time, Desc, Module, Command}
-use Rattle.sv_workload.specs.declared.keyword.Keyword.{Keyword}
-use Rattle.sv_workload.specs.declared.keyword.Keyword.TheVariants.{Setup, Unknown}
-use Rattle.sv_workload.specs.Keywords.{spelling, keyword_among, step_keywords, other_keywords}
 use Rattle.sv_workload.specs.Lines.{lines_of, is_remark, IsNext}
-use Rattle.sv_workload.specs.Words.{words_of}
-use Rattle.sv_workload.specs.Line.{Line, line_of, step_line, other_line, text_of}
+use Rattle.sv_workload.specs.Line.{Line, line_of}
 use Rattle.sv_workload.specs.Settings.{nothing_told, ring_told, clock_told, cpu_told, base_told}
 use Rattle.sv_workload.specs.Settings.{shift_told}
-use Rattle.sv_workload.specs.Meaning.{says, those, is_there, load_of}
+use Rattle.sv_workload.specs.Meaning.{load_of}
 use Rattle.sv_workload.specs.Checks.{fault_of}
-use Rattle.sv_workload.specs.Draft.{Draft, Stands, is_later, load_by}
+use Rattle.sv_workload.specs.Draft.{Draft, Stands, load_by}
 use Rattle.sv_workload.specs.Grammar.{said, fault_at, first_fault, first_fault_after}
-use Rattle.sv_workload.proofs.Keywords.{none_later}
 use Rattle.sv_workload.proofs.FirstFault.{one_good}
-
--- no line has a word of later
-
-among : (keywords : List Keyword) (word : List ℕ) → list_all (λ k. not (is_later k)) keywords ≡ true
-    → is_later (keyword_among keywords word) ≡ false
-among [] word all = refl
-among (k ∷ keywords) word all =
-    let parts = and_parts (not (is_later k)) (list_all (λ k. not (is_later k)) keywords) all in
-    by (bytes_eq (spelling k) word) (not_later (is_later k) parts.0) (among keywords word parts.1)
-  where
-    not_later : (b : Bool) → not b ≡ true → b ≡ false
-    not_later true e = cc
-    not_later false e = refl
-
-    by : (b : Bool) → is_later k ≡ false → is_later (keyword_among keywords word) ≡ false → is_later
-        (unwrap_or (cond b (Some k) (find (λ k. bytes_eq (spelling k) word) keywords)) Unknown) ≡
-        false
-    by true here more = here
-    by false here more = more
-
-pub never_later : (bytes : List ℕ) → is_later (line_of bytes).keyword ≡ false
-never_later bytes = by (is_ascii_digit (slice_index bytes 0)) (words_of bytes)
-  where
-    by : (b : Bool) (words : List (List ℕ)) → is_later
-        (cond b (step_line words) (other_line words)).keyword ≡ false
-    by true [] = refl
-    by true (advance ∷ []) = refl
-    by true (advance ∷ word ∷ words) = among step_keywords word refl
-    by false [] = refl
-    by false (word ∷ words) = among other_keywords word refl
 
 -- what one more line adds to what is said
 
@@ -93,7 +53,11 @@ pub walk_begins : (text : List ℕ)
     → Walk text text
     (record {
       settings = nothing_told;
+      timed = false;
+      lines = [];
       tasks = [];
+      modules = [];
+      commands = [];
       scripts = [];
       scheduled = false;
       schedule = [];
@@ -106,13 +70,16 @@ walk_begins text = record {
   within = omega arith;
   stands = record {
     settings = refl;
+    timed = refl;
+    texts = refl;
     tasks = refl;
+    modules = refl;
+    commands = refl;
     scripts = refl;
     steps = refl;
     starts = refl;
     scheduled = refl;
     schedule = refl;
-    later = refl;
   };
 }
 
@@ -140,12 +107,6 @@ module _ (text old line rest : List ℕ) (draft : Draft) (number : ℕ)
       (first_fault_after (walk.before ++ line ∷ []) (lines_of rest))) e
       ∙ ap (λ (n : ℕ). Some (n + 1, fault)) (sym walk.counted)
 
--- lines of later say nothing yet
-none_of : (k : Keyword) → is_later k ≡ true → (lines : List Line)
-    → list_all (λ line. not (is_later line.keyword)) lines ≡ true → those k lines ≡ []
-none_of k later lines all =
-    nil_from_length (those k lines) (length-filter (says k) lines ∙ none_later k later lines all)
-
 pub load_is : (draft : Draft) (lines : List Line) → Stands draft lines
     → load_by draft ≡ load_of lines
 load_is draft lines s =
@@ -154,11 +115,10 @@ load_is draft lines s =
     let cpu = ap cpu_told s.settings in
     let base = ap base_told s.settings in
     let shift = ap shift_told s.settings in
-    let timed : is_there (Setup Time) lines ≡ false = ap (λ (n : ℕ). nat_lt 0 n)
-    (none_later (Setup Time) refl lines s.later) in
-    let desc = ap (map text_of) (none_of (Setup Desc) refl lines s.later) in
-    let modules = none_of (Setup Module) refl lines s.later in
-    let commands = none_of (Setup Command) refl lines s.later in
+    let timed = s.timed in
+    let texts = s.texts in
+    let modules = s.modules in
+    let commands = s.commands in
     let tasks = s.tasks in
     let scripts = s.scripts in
     let scheduled = s.scheduled in

@@ -4,13 +4,15 @@ use Rattle.std.specs.Prelude.{drop, find, Option, option_map}
 use Rattle.std.specs.List.{list_any}
 use Rattle.std.specs.Option.{is_some}
 use Rattle.sv_workload.specs.declared.keyword.SetupWord.TheVariants.{Ring, Clock, Cpu, Base, Shift}
-use Rattle.sv_workload.specs.declared.keyword.SetupWord.TheVariants.{Task as a_task}
+use Rattle.sv_workload.specs.declared.keyword.SetupWord.TheVariants.{Time, Desc, Task as a_task}
+use Rattle.sv_workload.specs.declared.keyword.SetupWord.TheVariants.{Module, Command}
 use Rattle.sv_workload.specs.declared.keyword.ActWord.TheVariants.{Start}
 use Rattle.sv_workload.specs.declared.keyword.TurnWord.TheVariants.{Step}
 use Rattle.sv_workload.specs.declared.keyword.Keyword.{Keyword}
 use Rattle.sv_workload.specs.declared.keyword.Keyword.TheVariants.{Setup, Writer, Act, Turn}
 use Rattle.sv_workload.specs.declared.keyword.Keyword.TheVariants.{Unknown}
 use Rattle.sv_workload.specs.declared.fault.LineFault.{LineFault}
+use Rattle.sv_desc.specs.Modules.{is_full_for}
 use Rattle.sv_workload.specs.declared.settings.Settings.{Settings}
 use Rattle.sv_workload.specs.Need.{one_if, is_start_act}
 use Rattle.sv_workload.specs.Scripts.{over_scripts}
@@ -35,6 +37,10 @@ abbrev pub is_no_keyword : Keyword → Bool
 is_no_keyword Unknown = true
 is_no_keyword _ = false
 
+abbrev pub is_command : Keyword → Bool
+is_command (Setup Command) = true
+is_command _ = false
+
 -- the keyword may stand after what the draft holds
 abbrev pub has_place : Draft → Keyword → Bool
 has_place draft keyword =
@@ -56,7 +62,10 @@ has_all_steps draft = nat_le most_steps (over_scripts (λ s. 1) draft.scripts)
 
 -- no further line with this keyword is within the limits
 abbrev pub has_all : Draft → Keyword → Bool
+has_all draft (Setup Desc) = nat_le 4 (length draft.lines)
 has_all draft (Setup a_task) = nat_le 32 (length draft.tasks)
+has_all draft (Setup Module) = nat_le 64 (length draft.modules)
+has_all draft (Setup Command) = nat_le 256 (length draft.commands)
 has_all draft Writer = nat_le 16 (length draft.scripts)
 has_all draft (Act Start) =
     has_all_steps draft || nat_le 256
@@ -65,8 +74,9 @@ has_all draft (Act word) = has_all_steps draft
 has_all draft (Turn word) = nat_le most_steps (length draft.schedule)
 has_all draft _ = false
 
--- the keyword's setting was told, or a task with this identifier was
+-- the keyword's setting was told, or the line `time`, or a task with this identifier was
 abbrev pub repeats : Draft → Keyword → ℕ → Bool
+repeats draft (Setup Time) id = draft.timed
 repeats draft (Setup a_task) id = list_any (λ task. task.id == id) draft.tasks
 repeats draft keyword id = is_told draft.settings keyword
 
@@ -74,3 +84,8 @@ repeats draft keyword id = is_told draft.settings keyword
 abbrev pub lacks_writer : Draft → Keyword → ℕ → Bool
 lacks_writer draft (Turn Step) writer = nat_le (length draft.scripts) writer
 lacks_writer draft _ writer = false
+
+-- the module finds no identifiers for its events
+abbrev pub lacks_room : Draft → Keyword → ℕ → Bool
+lacks_room draft (Setup Module) events = is_full_for draft.modules events
+lacks_room draft _ events = false

@@ -20,12 +20,11 @@ use Rattle.sv_workload.specs.declared.keyword.Keyword.{Keyword}
 use Rattle.sv_workload.specs.declared.keyword.Keyword.TheVariants.{Setup, Writer, Act, Schedule}
 use Rattle.sv_workload.specs.declared.keyword.Keyword.TheVariants.{Turn, Unknown}
 use Rattle.sv_workload.specs.declared.range.Range.{Range}
-use Rattle.sv_workload.specs.declared.load.ModuleRow.{ModuleRow}
+use Rattle.sv_desc.specs.Modules.{is_full_for}
 use Rattle.sv_workload.specs.Keywords.{is_same}
 use Rattle.sv_workload.specs.Forms.{between, is_in, Form, form_of}
 use Rattle.sv_workload.specs.Words.{number_of}
 use Rattle.sv_workload.specs.Line.{Line, text_of}
-use Rattle.sv_workload.specs.Load.{offset_after}
 use Rattle.sv_workload.specs.Meaning.{says, count, is_there, number, base_of, shift_of, tasks_of}
 use Rattle.sv_workload.specs.Meaning.{modules_of}
 use Rattle.sv_workload.specs.Limits.{most_steps, most_starts, most_writers, most_ticks}
@@ -169,12 +168,6 @@ is_too_many before line = is_all_there before line.keyword
 -- its turn goes to a writer that there isn't
 abbrev pub has_no_writer : Check
 has_no_writer before line = says (Turn Step) line && nat_le (count Writer before) (number line 0)
-
--- after these modules no room is left for a module of so many events: 64 stand, or its identifiers
--- would pass 16384
-abbrev pub is_full_for : List ModuleRow → ℕ → Bool
-is_full_for modules events =
-    nat_le 64 (length modules) || nat_lt 16384 (offset_after modules + events)
 
 -- its module finds no identifiers for its events
 abbrev pub has_no_room : Check

@@ -1,54 +1,55 @@
 -- A workload in the making: what the lines so far told.
-use Rattle.std.specs.Prelude.{◌≡◌, ◌≤◌, Bool, true, false, not, List, [], ◌∷◌, ◌++◌, length}
-use Rattle.std.specs.Prelude.{filter_map, None, All}
-use Rattle.std.specs.List.{list_all}
+use Rattle.std.specs.Prelude.{◌≡◌, ◌≤◌, Bool, List, [], ◌∷◌, ◌++◌, length}
+use Rattle.std.specs.Prelude.{ℕ, filter_map, None, All}
+use Rattle.sv_desc.specs.Modules.{ModuleRow}
 use Rattle.sv_workload.specs.declared.settings.Settings.{Settings}
 use Rattle.sv_workload.specs.declared.load.Task.{Task}
+use Rattle.sv_workload.specs.declared.load.Command.{Command}
 use Rattle.sv_workload.specs.declared.load.Step.{Step}
 use Rattle.sv_workload.specs.declared.load.Action.{Action}
 use Rattle.sv_workload.specs.declared.keyword.SetupWord.TheVariants.{Ring, Clock, Cpu, Base, Shift}
-use Rattle.sv_workload.specs.declared.keyword.SetupWord.TheVariants.{Time, Desc, Module, Command}
+use Rattle.sv_workload.specs.declared.keyword.SetupWord.TheVariants.{Time}
 use Rattle.sv_workload.specs.declared.keyword.ActWord.TheVariants.{Start}
-use Rattle.sv_workload.specs.declared.keyword.TurnWord.TheVariants.{Send}
-use Rattle.sv_workload.specs.declared.keyword.Keyword.{Keyword}
-use Rattle.sv_workload.specs.declared.keyword.Keyword.TheVariants.{Setup, Act, Schedule, Turn}
+use Rattle.sv_workload.specs.declared.keyword.Keyword.TheVariants.{Setup, Act, Schedule}
 use Rattle.sv_workload.specs.Line.{Line}
 use Rattle.sv_workload.specs.Load.{Load}
-use Rattle.sv_workload.specs.Need.{one_if, is_start_act, IsTask, HasWords, IsTurn}
+use Rattle.sv_workload.specs.Need.{one_if, is_start_act, IsTask, HasWords, IsAsked, IsTurn}
 use Rattle.sv_workload.specs.Settings.{ring_told, clock_told, cpu_told, base_told, shift_told}
 use Rattle.sv_workload.specs.Settings.{AreInRange}
 use Rattle.sv_workload.specs.Scripts.{over_scripts}
 use Rattle.sv_workload.specs.Meaning.{count, is_there, told, tasks_of, scripts_of, action_of}
+use Rattle.sv_workload.specs.Meaning.{descriptions_of, modules_of, commands_of}
 use Rattle.sv_workload.specs.Checks.{is_step, count_of, fault_of}
 use Rattle.sv_workload.specs.Limits.{most_steps, most_writers}
 
 pub record Draft : Type 0 where
   pub settings : Settings
+  pub timed : Bool
+  pub lines : List (List ℕ)
   pub tasks : List Task
+  pub modules : List ModuleRow
+  pub commands : List Command
   pub scripts : List (List Step)
   pub scheduled : Bool
   pub schedule : List Action
 
--- the settings, tasks and turns are of their ranges, and the tasks, writers and turns are few
-pub record IsSound (settings : Settings) (tasks : List Task) (scripts : List (List Step))
-    (schedule : List Action) : Type 0 where
+-- the settings, texts, tasks, commands and turns are of their ranges, and all but the steps are
+-- few. Of modules that holds by itself
+pub record IsSound (settings : Settings) (lines : List (List ℕ)) (tasks : List Task)
+    (commands : List Command) (scripts : List (List Step)) (schedule : List Action) : Type 0 where
   pub ranges : AreInRange settings
+  pub few_lines : length lines ≤ 4
+  pub some_lines : All (λ text. 1 ≤ length text) lines
+  pub short_lines : All (λ text. length text ≤ 128) lines
   pub few_tasks : length tasks ≤ 32
   pub tasks_are : All IsTask tasks
   pub tasks_hold : All HasWords tasks
   pub short_names : All (λ task. length task.name ≤ 128) tasks
+  pub few_commands : length commands ≤ 256
+  pub commands_are : All IsAsked commands
   pub few_scripts : length scripts ≤ most_writers
   pub few_turns : length schedule ≤ most_steps
   pub turns_are : All (IsTurn (length scripts)) schedule
-
--- words that no line can have yet
-abbrev pub is_later : Keyword → Bool
-is_later (Setup Time) = true
-is_later (Setup Desc) = true
-is_later (Setup Module) = true
-is_later (Setup Command) = true
-is_later (Turn Send) = true
-is_later _ = false
 
 -- the settings that these lines tell
 abbrev pub settings_of : List Line → Settings
@@ -65,14 +66,17 @@ settings_of lines =
 -- the draft holds what these lines say
 pub record Stands (draft : Draft) (lines : List Line) : Type 0 where
   pub settings : draft.settings ≡ settings_of lines
+  pub timed : draft.timed ≡ is_there (Setup Time) lines
+  pub texts : draft.lines ≡ descriptions_of lines
   pub tasks : draft.tasks ≡ tasks_of lines
+  pub modules : draft.modules ≡ modules_of lines
+  pub commands : draft.commands ≡ commands_of lines
   pub scripts : draft.scripts ≡ scripts_of lines
   pub steps : over_scripts (λ s. 1) draft.scripts ≡ count_of is_step lines
   pub starts : over_scripts (λ s. one_if (is_start_act s.act)) draft.scripts ≡ count (Act Start)
       lines
   pub scheduled : draft.scheduled ≡ is_there Schedule lines
   pub schedule : draft.schedule ≡ filter_map action_of lines
-  pub later : list_all (λ line. not (is_later line.keyword)) lines ≡ true
 
 -- the line has no fault after the lines that the draft stands for
 abbrev pub IsGoodAfter : Draft → Line → Type 0
@@ -92,11 +96,11 @@ load_by draft = record {
   cpu = cpu_told draft.settings;
   base = base_told draft.settings;
   shift = shift_told draft.settings;
-  timed = false;
-  lines = [];
+  timed = draft.timed;
+  lines = draft.lines;
   tasks = draft.tasks;
-  modules = [];
-  commands = [];
+  modules = draft.modules;
+  commands = draft.commands;
   scripts = draft.scripts;
   scheduled = draft.scheduled;
   schedule = draft.schedule;

@@ -1,5 +1,5 @@
 -- The language of workloads: what a text says, or its first line that says nothing.
-use Rattle.std.specs.Prelude.{◌≡◌, false, ℕ, ◌+◌, ◌<◌, take, slice_index_or, not, List, [], ◌∷◌}
+use Rattle.std.specs.Prelude.{◌≡◌, ℕ, ◌+◌, ◌<◌, take, slice_index_or, not, List, [], ◌∷◌}
 use Rattle.std.specs.Prelude.{◌++◌, length, map, filter, Option, Some, None, option_map}
 use Rattle.std.specs.Prelude.{if◌then◌else◌}
 use Rattle.std.specs.Option.{option_or}
@@ -47,10 +47,3 @@ pub record IsFirstFault (text : List ℕ) (place : ℕ) (fault : LineFault) : Ty
       fault
   pub earlier : (k : ℕ) → k < place → fault_at (take k (lines_of text))
       (slice_index_or (lines_of text) k []) ≡ None
-
--- nothing is said that only words of later would say
-pub record SaysNothingOfLater (load : Load) : Type 0 where
-  pub timed : load.timed ≡ false
-  pub lines : load.lines ≡ []
-  pub modules : load.modules ≡ []
-  pub commands : load.commands ≡ []

@@ -20,12 +20,12 @@ step_keywords =
     map Act (Start ∷ Stop ∷ Nop ∷ Isr ∷ IsrExit ∷ Run ∷ Halt ∷ Ready ∷ Unready ∷ Create ∷ Terminate
     ∷ Mark ∷ MarkEnd ∷ Idle ∷ Sched ∷ Timer ∷ TimerExit ∷ Name ∷ Print ∷ Call ∷ Return ∷ [])
 
--- the keywords of every other line. `time`, `desc`, `module`, `command` and `send` are not among
--- them yet
+-- the keywords of every other line
 abbrev pub other_keywords : List Keyword
 other_keywords =
-    map Setup (Ring ∷ Clock ∷ Cpu ∷ Base ∷ Shift ∷ Task ∷ []) ++
-    (Writer ∷ Schedule ∷ map Turn (Step ∷ Read ∷ []))
+    map Setup
+    (Ring ∷ Clock ∷ Cpu ∷ Base ∷ Shift ∷ Time ∷ Desc ∷ Task ∷ Module ∷ Command ∷ []) ++
+    (Writer ∷ Schedule ∷ map Turn (Step ∷ Read ∷ Send ∷ []))
 
 -- the bytes of a keyword; none for what is no keyword
 abbrev pub spelling : Keyword → List ℕ

@@ -1,12 +1,12 @@
 -- A workload as contracts see it: the settings, what there is to describe, and what each writer and
 -- the host do.
-use Rattle.std.specs.Prelude.{ℕ, ◌+◌, ◌^◌, sum_by, Bool, true, false, List, [], Option, slice_get}
+use Rattle.std.specs.Prelude.{ℕ, ◌^◌, Bool, true, false, List, [], Option, slice_get}
 use Rattle.std.specs.Prelude.{slice_index_or}
 use Rattle.std.specs.Option.{option_map, option_map_or}
 use Rattle.sv_packet.specs.declared.event.Event.{Event}
 use Rattle.sv_packet.specs.declared.event.Event.TheVariants.{Overflow, TraceStart, TraceStop}
+use Rattle.sv_desc.specs.Modules.{ModuleRow}
 use Rattle.sv_workload.specs.declared.load.Task.{Task}
-use Rattle.sv_workload.specs.declared.load.ModuleRow.{ModuleRow}
 use Rattle.sv_workload.specs.declared.load.Command.{Command}
 use Rattle.sv_workload.specs.declared.load.Act.{Act}
 use Rattle.sv_workload.specs.declared.load.Step.{Step}
@@ -54,7 +54,3 @@ advance_of load writer step = option_map_or (λ s. s.advance) (step_of load writ
 -- the counter begins again after so many ticks
 abbrev pub period : Load → ℕ
 period load = 2 ^ 32
-
--- the first event identifier after these modules: each has as many as it registered, from 512 on
-abbrev pub offset_after : List ModuleRow → ℕ
-offset_after modules = 512 + sum_by (λ row. row.events) modules

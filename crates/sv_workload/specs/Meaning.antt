@@ -6,7 +6,7 @@ use Rattle.std.specs.List.{slice_split}
 use Rattle.sv_prim.specs.Number.{number_spelling}
 use Rattle.sv_prim.specs.Shrink.{shrunk}
 use Rattle.sv_packet.specs.declared.event.Event.TheVariants as event
-use Rattle.sv_workload.specs.declared.load.ModuleRow.{ModuleRow}
+use Rattle.sv_desc.specs.Modules.{ModuleRow}
 use Rattle.sv_workload.specs.declared.load.Step.{Step}
 use Rattle.sv_workload.specs.declared.load.Task.{Task}
 use Rattle.sv_workload.specs.declared.load.Command.{Command}
@@ -80,15 +80,22 @@ task_of line =
 abbrev pub tasks_of : List Line → List Task
 tasks_of lines = map task_of (those (keyword.Setup setup.Task) lines)
 
+abbrev pub row_of : Line → ModuleRow
+row_of line = record { events = number line 0; name = text_of line }
+
 abbrev pub modules_of : List Line → List ModuleRow
-modules_of lines =
-    map (λ line. record { events = number line 0; name = text_of line })
-    (those (keyword.Setup setup.Module) lines)
+modules_of lines = map row_of (those (keyword.Setup setup.Module) lines)
+
+-- the texts that describe the target
+abbrev pub descriptions_of : List Line → List (List ℕ)
+descriptions_of lines = map text_of (those (keyword.Setup setup.Desc) lines)
+
+-- a command without a parameter has 0 for it
+abbrev pub command_of : Line → Command
+command_of line = record { byte = number line 0; param = number line 1 }
 
 abbrev pub commands_of : List Line → List Command
-commands_of lines =
-    map (λ line. record { byte = number line 0; param = number line 1 })
-    (those (keyword.Setup setup.Command) lines)
+commands_of lines = map command_of (those (keyword.Setup setup.Command) lines)
 
 -- what a step does with these numbers, the identifier among them shrunk by now, and this text
 abbrev pub act_of : ActWord → List ℕ → List ℕ → Act
@@ -159,7 +166,7 @@ load_of lines = record {
   base = base_of lines;
   shift = shift_of lines;
   timed = is_there (keyword.Setup setup.Time) lines;
-  lines = map text_of (those (keyword.Setup setup.Desc) lines);
+  lines = descriptions_of lines;
   tasks = tasks_of lines;
   modules = modules_of lines;
   commands = commands_of lines;

@@ -11,7 +11,8 @@ use Rattle.sv_workload.specs.declared.load.Task.{Task}
 use Rattle.sv_workload.specs.declared.load.Action.{Action}
 use Rattle.sv_workload.specs.declared.load.Action.TheVariants as actions
 use Rattle.sv_workload.specs.declared.load.Command.{Command}
-use Rattle.sv_workload.specs.Load.{Load, is_break, offset_after}
+use Rattle.sv_desc.specs.Modules.{offset_after}
+use Rattle.sv_workload.specs.Load.{Load, is_break}
 use Rattle.sv_workload.specs.Limits.{most_steps, most_starts, most_writers, most_ticks}
 
 abbrev pub is_start_act : Act → Bool

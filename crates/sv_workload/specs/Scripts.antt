@@ -27,13 +27,13 @@ pub record AreCounted (scripts : List (List Step)) (steps starts bytes : ℕ) : 
   pub advances : All (λ script. All (λ s. s.advance ≤ most_ticks) script) scripts
   pub acts : All (λ script. All (λ s. IsStepAct s.act) script) scripts
 
--- what these scripts need where nothing but so many tasks is described, and what a workload asks of
--- them
-pub record NeedOf (scripts : List (List Step)) (tasks : ℕ) (need : Need) : Type 0 where
-  pub items : need.items ≡ 3 * over_scripts (λ s. 1) scripts + over_scripts
-      (λ s. one_if (is_start_act s.act)) scripts * (2 + 2 * (4 + 2 * tasks))
-  pub bytes : need.bytes ≡ 16 + over_scripts (λ s. act_bytes s.act) scripts + over_scripts
-      (λ s. one_if (is_start_act s.act)) scripts * (27 + 156 * (4 + 2 * tasks))
+-- what these scripts need where a start or one of so many commands has so many replies, and what a
+-- workload asks of them
+pub record NeedOf (scripts : List (List Step)) (replies commands : ℕ) (need : Need) : Type 0 where
+  pub items : need.items ≡ 3 * over_scripts (λ s. 1) scripts +
+      (over_scripts (λ s. one_if (is_start_act s.act)) scripts + commands) * (2 + 2 * replies)
+  pub bytes : need.bytes ≡ 16 + over_scripts (λ s. act_bytes s.act) scripts +
+      (over_scripts (λ s. one_if (is_start_act s.act)) scripts + commands) * (27 + 156 * replies)
   pub few : need.items < 3400000
   pub short : need.bytes < 181000000
   pub writers : length scripts ≤ most_writers

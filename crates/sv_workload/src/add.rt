@@ -5,18 +5,20 @@ ghost use Rattle.sv_workload.specs.declared.keyword.Keyword.{Keyword};
 ghost use Rattle.sv_workload.specs.declared.keyword.Keyword.TheVariants.{Setup, Act, Turn};
 ghost use Rattle.sv_workload.specs.Forms.{is_in, form_of};
 ghost use Rattle.sv_workload.specs.Need.{one_if, is_start_act, IsStepAct, IsTask, HasWords, IsTurn};
+ghost use Rattle.sv_workload.specs.Need.{IsAsked};
 ghost use Rattle.sv_workload.specs.Settings.{tell};
 ghost use Rattle.sv_workload.specs.Scripts.{onto_last, over_scripts};
-ghost use Rattle.sv_workload.specs.Draft.{IsGoodAfter, HasTaken, is_later};
+ghost use Rattle.sv_workload.specs.Draft.{IsGoodAfter, HasTaken};
+ghost use Rattle.sv_desc.specs.Modules.{is_full_for};
 ghost use Rattle.sv_workload.specs.Limits.{most_steps, most_starts, most_ticks};
 
 use crate::draft::Draft;
 use crate::keyword::{ActWord, Keyword, SetupWord};
-use crate::load::{Action, Step, Task};
-use crate::parts::{action, step, task};
+use crate::load::{Action, Command, Step, Task};
+use crate::parts::{action, command, step, task};
 use crate::read_line::ReadLine;
 use std::alloc::Global;
-use sv_prim::NoMemory;
+use sv_prim::{Bytes, NoMemory};
 
 impl Draft {
     /// One more setting is told.
@@ -25,6 +27,53 @@ impl Draft {
         ensures { self.new ≡ record self.old { settings = tell word n self.old.settings } }
     {
         self.settings.tell(word, n);
+    }
+
+    /// The system tells its time in microseconds.
+    fn add_time(&mut self)
+        ensures { self.new ≡ record self.old { timed = true } }
+    {
+        self.timed = true;
+    }
+
+    /// One more line that describes the target, after the others.
+    fn add_line(&mut self, text: Bytes) -> Result<(), NoMemory>
+        requires few { length self.old.lines < 4 }
+        requires some { 1 ≤ length text }
+        requires short { length text ≤ 128 }
+        ensures { OnOk result (self.new ≡ record self.old { lines = self.old.lines ++ text ∷ [] }) }
+    {
+        if self.lines.push(text).is_err() {
+            return Err(NoMemory);
+        }
+        Ok(())
+    }
+
+    /// One more module, after the others.
+    fn add_module(&mut self, name: Bytes, events: u32)
+        requires room { is_full_for self.old.modules events ≡ false }
+        requires some { 1 ≤ length name }
+        requires short { length name ≤ 128 }
+        ensures { self.new ≡ record self.old
+            { modules = self.old.modules ++ record { events = events; name = name } ∷ [] } }
+    {
+        match self.modules.register(name, events) {
+            Ok(_) => {}
+            Err(_) => unreachable!(),
+        }
+    }
+
+    /// One more command, after the others.
+    fn add_command(&mut self, command: Command) -> Result<(), NoMemory>
+        requires few { length self.old.commands < 256 }
+        requires asked { IsAsked command }
+        ensures { OnOk result
+            (self.new ≡ record self.old { commands = self.old.commands ++ command ∷ [] }) }
+    {
+        if self.commands.push(command).is_err() {
+            return Err(NoMemory);
+        }
+        Ok(())
     }
 
     /// One more task, after the others.
@@ -84,7 +133,7 @@ impl Draft {
         Ok(())
     }
 
-    /// Adds what a line about the target or a task says.
+    /// Adds what a line about the target, a task or the host says.
     fn add_setup(
         &mut self,
         alloc: Global,
@@ -92,15 +141,28 @@ impl Draft {
         word: SetupWord,
     ) -> Result<(), NoMemory>
         requires keyword { line.now.keyword ≡ Setup word }
-        requires known { is_later line.now.keyword ≡ false }
         requires good { IsGoodAfter self.old line.now }
         ensures { OnOk result (HasTaken self.old self.new line.now) }
     {
         match word {
+            SetupWord::Time => {
+                self.add_time();
+                Ok(())
+            }
+            SetupWord::Desc => {
+                let text = Bytes::new(alloc, line.text())?;
+                self.add_line(text)
+            }
             SetupWord::Task => {
                 let task = task(alloc, line)?;
                 self.add_task(task)
             }
+            SetupWord::Module => {
+                let name = Bytes::new(alloc, line.text())?;
+                self.add_module(name, line.first_number());
+                Ok(())
+            }
+            SetupWord::Command => self.add_command(command(line)),
             _ => {
                 self.add_setting(word, line.first_number());
                 Ok(())
@@ -124,7 +186,6 @@ impl Draft {
     /// Adds what a line without a fault says. Memory is taken for what is kept of it alone.
     #[inline(always)]
     pub fn add(&mut self, alloc: Global, line: &ReadLine<'_>) -> Result<(), NoMemory>
-        requires known { is_later line.now.keyword ≡ false }
         requires good { IsGoodAfter self.old line.now }
         ensures { OnOk result (HasTaken self.old self.new line.now) }
     {

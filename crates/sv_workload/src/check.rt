@@ -3,8 +3,8 @@ ghost use Rattle.std.specs.Prelude.{◌≡◌, List, [], IfNone, false};
 ghost use Rattle.sv_workload.specs.Line.{Line};
 ghost use Rattle.sv_workload.specs.Checks.{is_unknown, is_misplaced, has_bad_number};
 ghost use Rattle.sv_workload.specs.Checks.{is_unaligned, is_repeated, is_too_many, has_no_writer};
-ghost use Rattle.sv_workload.specs.Checks.{fault_of};
-ghost use Rattle.sv_workload.specs.Draft.{Stands, is_later};
+ghost use Rattle.sv_workload.specs.Checks.{has_no_room, fault_of};
+ghost use Rattle.sv_workload.specs.Draft.{Stands};
 ghost use Rattle.sv_workload.specs.Checking.{is_no_keyword, first_of, form_checks, later_checks};
 
 use crate::draft::Draft;
@@ -82,10 +82,18 @@ impl Draft {
         self.lacks_writer(line.keyword(), line.first_number())
     }
 
+    /// Whether a line's module finds no identifiers for its events.
+    #[inline(always)]
+    pub fn has_no_room(&self, line: &ReadLine<'_>) -> bool
+        ensures { (lines : List Line) → Stands self.now lines
+            → result ≡ has_no_room lines line.now }
+    {
+        self.lacks_room(line.keyword(), line.first_number())
+    }
+
     /// What is wrong with where a line stands, or with its words.
     #[inline(always)]
     fn form_fault(&self, line: &ReadLine<'_>) -> Option<LineFault>
-        requires { is_later line.now.keyword ≡ false }
         ensures first { (lines : List Line) → Stands self.now lines
             → result ≡ first_of form_checks lines line.now }
         ensures good { IfNone result (has_bad_number [] line.now ≡ false) }
@@ -111,7 +119,6 @@ impl Draft {
     /// What is wrong with what a line says after the lines before it.
     #[inline(always)]
     fn later_fault(&self, line: &ReadLine<'_>) -> Option<LineFault>
-        requires known { is_later line.now.keyword ≡ false }
         requires good { has_bad_number [] line.now ≡ false }
         ensures { (lines : List Line) → Stands self.now lines
             → result ≡ first_of later_checks lines line.now }
@@ -128,13 +135,15 @@ impl Draft {
         if self.has_no_writer(line) {
             return Some(LineFault::NoSuchWriter);
         }
+        if self.has_no_room(line) {
+            return Some(LineFault::ModuleFull);
+        }
         None
     }
 
     /// What is wrong with a line after the lines of the draft, if anything is.
     #[inline(always)]
     pub fn fault(&self, line: &ReadLine<'_>) -> Option<LineFault>
-        requires { is_later line.now.keyword ≡ false }
         ensures { (lines : List Line) → Stands self.now lines → result ≡ fault_of lines line.now }
     {
         match self.form_fault(line) {

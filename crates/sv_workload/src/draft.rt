@@ -1,25 +1,32 @@
 //! A workload in the making.
-ghost use Rattle.std.specs.Prelude.{◌≡◌, ◌≤◌, [], false};
+ghost use Rattle.std.specs.Prelude.{◌≡◌, ◌≤◌, ◌+◌, ◌*◌, [], false, length};
 ghost use Rattle.sv_workload.specs.Checks.{sets_identifiers, may_stand};
 ghost use Rattle.sv_workload.specs.Checking.{is_told};
 
 use crate::fault::LineFault;
 use crate::keyword::{ActWord, Keyword, SetupWord, TurnWord};
-use crate::limits::{MOST_STARTS, MOST_STEPS, MOST_TASKS, MOST_WRITERS};
+use crate::limits::{
+    MOST_COMMANDS, MOST_LINES, MOST_MODULES, MOST_STARTS, MOST_STEPS, MOST_TASKS, MOST_WRITERS,
+};
 use crate::lines::is_remark;
-use crate::load::{Action, Need, Task};
+use crate::load::{Action, Command, Need, Task};
 use crate::read_line::ReadLine;
 use crate::scripts::Scripts;
 use crate::settings::Settings;
 use std::alloc::Global;
 use std::marker::Model;
-use sv_prim::{NoMemory, aligned};
+use sv_desc::Modules;
+use sv_prim::{Bytes, NoMemory, aligned};
 
 /// A workload in the making: what the lines so far told.
 #[derive(Drop)]
 pub struct Draft {
     pub settings: Settings,
+    pub timed: bool,
+    pub lines: Vec<Bytes>,
     pub tasks: Vec<Task>,
+    pub modules: Modules,
+    pub commands: Vec<Command>,
     pub scripts: Scripts,
     pub scheduled: bool,
     pub schedule: Vec<Action>,
@@ -32,25 +39,34 @@ impl Model for Draft {
 
     ghost view = { λ d. record {
       settings = d.settings;
+      timed = d.timed;
+      lines = d.lines.items;
       tasks = d.tasks.items;
+      modules = d.modules;
+      commands = d.commands.items;
       scripts = d.scripts;
       scheduled = d.scheduled;
       schedule = d.schedule.items;
     } };
 
-    ghost invariant = { λ d. IsSound d.settings d.tasks.items d.scripts d.schedule.items };
+    ghost invariant = { λ d. IsSound d.settings d.lines.items d.tasks.items d.commands.items
+        d.scripts d.schedule.items };
 }
 
 impl Draft {
     ghost use Rattle.sv_workload.specs.Settings.{nothing_told};
-    ghost use Rattle.sv_workload.specs.Need.{HasNeed};
+    ghost use Rattle.sv_workload.specs.Need.{HasNeed, replies_in};
     ghost use Rattle.sv_workload.specs.Draft.{load_by};
 
     /// No line is read yet.
     pub fn new(alloc: Global) -> Draft
         ensures { result ≡ record {
           settings = nothing_told;
+          timed = false;
+          lines = [];
           tasks = [];
+          modules = [];
+          commands = [];
           scripts = [];
           scheduled = false;
           schedule = [];
@@ -58,18 +74,34 @@ impl Draft {
     {
         Draft {
             settings: Settings::new(),
+            timed: false,
+            lines: Vec::new(alloc),
             tasks: Vec::new(alloc),
+            modules: Modules::new(alloc),
+            commands: Vec::new(alloc),
             scripts: Scripts::new(alloc),
             scheduled: false,
             schedule: Vec::new(alloc),
         }
     }
 
+    /// How many packets a start or a command records at most.
+    fn replies(&self) -> u64
+        ensures count { result ≡ replies_in (load_by self.now) }
+        ensures few { result ≤ 136 }
+    {
+        let modules = u64::from(self.modules.count());
+        4 + self.lines.len() as u64 + 2 * self.tasks.len() as u64 + modules
+    }
+
     /// How many items and bytes a journal of the workload and its stream have at most.
     pub fn need(&self) -> Need
         ensures { HasNeed (load_by self.now) result }
     {
-        self.scripts.need(self.tasks.len() as u64)
+        // By what the modules keep, they are few and have short names.
+        let _ = self.modules.count();
+        self.scripts
+            .need(self.replies(), self.commands.len() as u64)
     }
 }
 
@@ -115,7 +147,7 @@ impl Draft {
     ghost use Rattle.sv_workload.specs.Settings.{base_told, shift_told};
     ghost use Rattle.sv_workload.specs.Checks.{is_aligned};
     ghost use Rattle.sv_workload.specs.Checking.{has_place, has_all_steps, has_all};
-    ghost use Rattle.sv_workload.specs.Checking.{repeats, lacks_writer};
+    ghost use Rattle.sv_workload.specs.Checking.{repeats, lacks_writer, lacks_room};
 
     /// Whether the keyword may stand after the lines of the draft.
     #[inline(always)]
@@ -144,7 +176,10 @@ impl Draft {
         ensures { result ≡ has_all self.now keyword }
     {
         match keyword {
+            Keyword::Setup(SetupWord::Desc) => self.lines.len() >= MOST_LINES,
             Keyword::Setup(SetupWord::Task) => self.tasks.len() >= MOST_TASKS,
+            Keyword::Setup(SetupWord::Module) => self.modules.count() >= MOST_MODULES,
+            Keyword::Setup(SetupWord::Command) => self.commands.len() >= MOST_COMMANDS,
             Keyword::Writer => self.scripts.writers() >= MOST_WRITERS,
             Keyword::Act(ActWord::Start) => self.has_all_steps()
                 || self.scripts.starts() >= MOST_STARTS,
@@ -161,12 +196,13 @@ impl Draft {
         self.tasks.iter().any(|task| task.id == id)
     }
 
-    /// Whether a keyword's setting, or a task's identifier, was told.
+    /// Whether a keyword's setting, the line `time`, or a task's identifier, was told.
     #[inline(always)]
     pub fn repeats(&self, keyword: Keyword, id: u32) -> bool
         ensures { result ≡ repeats self.now keyword id }
     {
         match keyword {
+            Keyword::Setup(SetupWord::Time) => self.timed,
             Keyword::Setup(SetupWord::Task) => self.has_task(id),
             keyword => is_told(&self.settings, keyword),
         }
@@ -199,6 +235,17 @@ impl Draft {
         let writers = self.scripts.writers();
         match keyword {
             Keyword::Turn(TurnWord::Step) => writer >= writers,
+            _ => false,
+        }
+    }
+
+    /// Whether a module finds no identifiers for its events.
+    #[inline(always)]
+    pub fn lacks_room(&self, keyword: Keyword, events: u32) -> bool
+        ensures { result ≡ lacks_room self.now keyword events }
+    {
+        match keyword {
+            Keyword::Setup(SetupWord::Module) => self.modules.is_full_for(events),
             _ => false,
         }
     }

@@ -72,15 +72,19 @@ fn other_keywords(len: usize) -> &'static [Keyword]
         4 => &[
             Keyword::Setup(SetupWord::Ring),
             Keyword::Setup(SetupWord::Base),
+            Keyword::Setup(SetupWord::Time),
+            Keyword::Setup(SetupWord::Desc),
             Keyword::Setup(SetupWord::Task),
             Keyword::Turn(TurnWord::Step),
             Keyword::Turn(TurnWord::Read),
+            Keyword::Turn(TurnWord::Send),
         ],
         5 => &[
             Keyword::Setup(SetupWord::Clock),
             Keyword::Setup(SetupWord::Shift),
         ],
-        6 => &[Keyword::Writer],
+        6 => &[Keyword::Setup(SetupWord::Module), Keyword::Writer],
+        7 => &[Keyword::Setup(SetupWord::Command)],
         8 => &[Keyword::Schedule],
         _ => &[],
     }

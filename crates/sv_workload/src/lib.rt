@@ -3,13 +3,14 @@
 //! `parse` reads a `text` by its `lines`. A line is cut at its spaces (`cut_line`), and its
 //! `keyword` says which `form` it has, by which its `fields` are read in one pass: that is a
 //! `read_line`. It is checked for itself, and then against the `draft` of the lines before it
-//! (`check`). A line without a fault makes a step, a task or a turn (`parts`), which the draft
-//! takes up (`add`).
+//! (`check`). A line without a fault makes a step, a task, a command or a turn (`parts`), which
+//! the draft takes up (`add`).
 #![tactic(auto)]
 
 mod acts;
 mod add;
 mod check;
+mod command_words;
 mod cut_line;
 mod draft;
 mod fault;
@@ -33,7 +34,7 @@ mod words;
 
 pub use fault::{LineFault, WorkFault};
 pub use laws::the_first_fault;
-pub use load::{Act, Action, Command, ModuleRow, Need, Step, Task, Workload};
+pub use load::{Act, Action, Command, Need, Step, Task, Workload};
 pub use text::parse;
 
 #[cfg(test)]

@@ -9,8 +9,17 @@ pub const MOST_STARTS: u64 = 256;
 /// Writers.
 pub const MOST_WRITERS: u32 = 16;
 
+/// Lines that describe the target.
+pub const MOST_LINES: usize = 4;
+
 /// Tasks.
 pub const MOST_TASKS: usize = 32;
+
+/// Modules.
+pub const MOST_MODULES: u32 = 64;
+
+/// Commands of the host.
+pub const MOST_COMMANDS: usize = 256;
 
 /// Ticks before a step: 2^33.
 pub const MOST_TICKS: u64 = 8589934592;

@@ -7,8 +7,8 @@ ghost use Rattle.sv_workload.specs.Draft.{load_by};
 ghost use Rattle.sv_workload.specs.Limits.{most_steps, most_ticks};
 
 use crate::draft::Draft;
-use std::alloc::Global;
 use std::marker::Model;
+use sv_desc::Modules;
 use sv_packet::Event;
 use sv_prim::Bytes;
 
@@ -69,14 +69,6 @@ pub struct Need {
     pub bytes: u64,
 }
 
-/// A registered module: how many events it may send, and what describes them. Modules are numbered
-/// in their order.
-#[derive(Debug, Drop)]
-pub struct ModuleRow {
-    pub events: u32,
-    pub name: Bytes,
-}
-
 /// What the writers of a run do: the settings, what there is to describe, and what each writer and
 /// the host do.
 #[derive(Debug, Drop)]
@@ -89,7 +81,7 @@ pub struct Workload {
     timed: bool,
     lines: Vec<Bytes>,
     tasks: Vec<Task>,
-    modules: Vec<ModuleRow>,
+    modules: Modules,
     commands: Vec<Command>,
     writers: Vec<Vec<Step>>,
     scheduled: bool,
@@ -113,7 +105,7 @@ impl Model for Workload {
       timed = w.timed;
       lines = w.lines.items;
       tasks = w.tasks.items;
-      modules = w.modules.items;
+      modules = w.modules;
       commands = w.commands.items;
       scripts = map (λ s. s.items) w.writers.items;
       scheduled = w.scheduled;
@@ -129,7 +121,7 @@ impl Model for Workload {
       timed = w.timed;
       lines = w.lines.items;
       tasks = w.tasks.items;
-      modules = w.modules.items;
+      modules = w.modules;
       commands = w.commands.items;
       scripts = map (λ s. s.items) w.writers.items;
       scheduled = w.scheduled;
@@ -138,8 +130,8 @@ impl Model for Workload {
 }
 
 impl Workload {
-    /// The workload that a draft told: by now without lines, modules and commands.
-    pub fn of(alloc: Global, draft: Draft) -> Workload
+    /// The workload that a draft told.
+    pub fn of(draft: Draft) -> Workload
         ensures { result ≡ load_by draft }
     {
         let need = draft.need();
@@ -151,11 +143,11 @@ impl Workload {
             cpu: settings.cpu(),
             base: settings.base(),
             shift: settings.shift(),
-            timed: false,
-            lines: Vec::new(alloc),
+            timed: draft.timed,
+            lines: draft.lines,
             tasks: draft.tasks,
-            modules: Vec::new(alloc),
-            commands: Vec::new(alloc),
+            modules: draft.modules,
+            commands: draft.commands,
             writers,
             scheduled: draft.scheduled,
             schedule: draft.schedule,
@@ -228,6 +220,13 @@ impl Workload {
         ensures words { All HasWords result.now }
     {
         self.tasks.as_slice()
+    }
+
+    /// The modules that register, in order, at most 64.
+    pub fn modules(&self) -> &Modules
+        ensures { result.now ≡ self.now.modules }
+    {
+        &self.modules
     }
 
     /// What the host asks, in order, at most 256 times.

@@ -3,13 +3,14 @@ ghost use Rattle.std.specs.Prelude.{◌≡◌, ◌^◌, ◌<◌, ◌≤◌, Some
 ghost use Rattle.sv_workload.specs.declared.keyword.SetupWord.TheVariants as setup;
 ghost use Rattle.sv_workload.specs.declared.keyword.Keyword.TheVariants.{Setup, Act, Turn};
 ghost use Rattle.sv_workload.specs.Fit.{IsFit};
-ghost use Rattle.sv_workload.specs.Meaning.{number, task_of, step_by, action_by, action_of};
-ghost use Rattle.sv_workload.specs.Need.{IsStepAct};
+ghost use Rattle.sv_workload.specs.Meaning.{number, task_of, command_of, step_by, action_by};
+ghost use Rattle.sv_workload.specs.Meaning.{action_of};
+ghost use Rattle.sv_workload.specs.Need.{IsStepAct, IsAsked};
 ghost use Rattle.sv_workload.specs.Limits.{most_ticks};
 
 use crate::acts::act;
 use crate::keyword::{ActWord, TurnWord};
-use crate::load::{Action, Step, Task};
+use crate::load::{Action, Command, Step, Task};
 use crate::numbers::number_or;
 use crate::read_line::ReadLine;
 use std::alloc::Global;
@@ -67,6 +68,31 @@ pub fn task(alloc: Global, line: &ReadLine<'_>) -> Result<Task, NoMemory>
         → IfOk result (λ t. t ≡ task_of line.now) }
 {
     named_task(alloc, line.numbers(), line.text())
+}
+
+/// The command of these numbers, each of which is a byte.
+fn command_by(numbers: &[u32]) -> Command
+    requires byte { slice_index numbers.now 0 < 256 }
+    requires param { slice_index numbers.now 1 < 256 }
+    ensures { result ≡ record {
+      byte = slice_index numbers.now 0;
+      param = slice_index numbers.now 1;
+    } }
+{
+    Command {
+        byte: number_or(numbers, 0, 0) as u8,
+        param: number_or(numbers, 1, 0) as u8,
+    }
+}
+
+/// The command of a line.
+pub fn command(line: &ReadLine<'_>) -> Command
+    requires keyword { line.now.keyword ≡ Setup setup.Command }
+    requires fit { IsFit line.now }
+    ensures told { result ≡ command_of line.now }
+    ensures asked { IsAsked result }
+{
+    command_by(line.numbers())
 }
 
 /// The step of a line, by its word. The base is an address in bytes from which identifiers are

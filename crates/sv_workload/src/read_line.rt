@@ -1,17 +1,17 @@
 //! A line that was read.
 ghost use Rattle.std.specs.Prelude.{◌≡◌, ◌-◌, ◌^◌, List, map, min, option_and_then, unwrap_or};
-ghost use Rattle.std.specs.Prelude.{false};
 ghost use Rattle.sv_workload.specs.Forms.{form_of};
 ghost use Rattle.sv_workload.specs.Line.{Line, line_of, numbers_of, text_of};
-ghost use Rattle.sv_workload.specs.Meaning.{number, says};
+ghost use Rattle.sv_workload.specs.Meaning.{number};
 ghost use Rattle.sv_workload.specs.Numbers.{capped};
 ghost use Rattle.sv_workload.specs.Words.{number_of};
 ghost use Rattle.sv_workload.specs.Checks.{is_misshapen, has_bad_number};
 
+use crate::command_words::{fits_command, is_command};
 use crate::cut_line::{CutLine, cut_into_words};
 use crate::fields::{Fields, fields_of};
 use crate::form::{Form, form_of};
-use crate::keyword::{Keyword, SetupWord};
+use crate::keyword::Keyword;
 use crate::numbers::number_or;
 use std::marker::Model;
 
@@ -106,13 +106,16 @@ impl<'a> ReadLine<'a> {
         self.fields.text
     }
 
-    /// Whether a word is missing, empty or too many. The line is none of a command.
+    /// Whether a word is missing, empty or too many.
     #[inline(always)]
     pub fn is_misshapen(&self) -> bool
-        requires { says (Keyword.Setup SetupWord.Command) self.now ≡ false }
         ensures { (before : List Line) → result ≡ is_misshapen before self.now }
     {
-        !self.fields.shaped
+        if is_command(self.cut.keyword) {
+            !fits_command(&self.cut.words)
+        } else {
+            !self.fields.shaped
+        }
     }
 
     /// Whether the ticks or a word for a number are no number, or one out of its range.

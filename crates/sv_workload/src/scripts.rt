@@ -164,16 +164,17 @@ impl Scripts {
         Ok(())
     }
 
-    /// How many items and bytes a journal of these scripts and its stream have at most, beside so
-    /// many tasks.
-    pub fn need(&self, tasks: u64) -> Need
-        requires few { tasks ≤ 32 }
-        ensures { NeedOf self.now tasks result }
+    /// How many items and bytes a journal of these scripts and its stream have at most, where a
+    /// start or one of so many commands has so many replies.
+    pub fn need(&self, replies: u64, commands: u64) -> Need
+        requires replies { replies ≤ 136 }
+        requires commands { commands ≤ 256 }
+        ensures { NeedOf self.now replies commands result }
     {
-        let replies = 4 + 2 * tasks;
+        let groups = self.starts + commands;
         Need {
-            items: 3 * self.steps + self.starts * (2 + 2 * replies),
-            bytes: 16 + self.bytes + self.starts * (27 + 156 * replies),
+            items: 3 * self.steps + groups * (2 + 2 * replies),
+            bytes: 16 + self.bytes + groups * (27 + 156 * replies),
         }
     }
 

@@ -1,6 +1,7 @@
 use super::*;
 use std::alloc::{AllocError, Global};
 use std::test::*;
+use sv_desc::Module;
 use sv_packet::Event;
 
 /// What a step says, in short: its ticks, the identifier of its packet or a number from 100 on, and
@@ -97,7 +98,7 @@ fn fault_of(alloc: Global, text: &[u8]) -> Option<WorkFault> {
 fn the_first_line_with_a_fault(rt: HostRuntime) {
     let alloc = rt.alloc();
     for (text, line, reason) in [
-        // Each fault, but that of modules, whose lines can't be written yet.
+        // Each fault.
         ("hello", 1, 1),
         ("ring", 1, 2),
         ("ring 63", 1, 3),
@@ -110,6 +111,7 @@ fn the_first_line_with_a_fault(rt: HostRuntime) {
             8,
         ),
         ("writer\nschedule\nstep 1", 3, 9),
+        ("module 15872 A\nmodule 1 B", 2, 10),
         // A line that fails two checks has the reason of the first.
         ("writer\nschedule\nblink 1", 3, 1),
         ("step ", 1, 7),
@@ -130,7 +132,18 @@ fn the_first_line_with_a_fault(rt: HostRuntime) {
         ("writer\n1 nop ", 2, 2),
         ("writer\n1 nop\r\n", 2, 1),
         ("writer\n1 call 40 1 2 3 4 5 6 7 8 9", 2, 2),
-        ("time", 1, 1),
+        // What describes the target, and the host.
+        ("time\ntime", 2, 4),
+        ("desc a\ndesc a\ndesc a\ndesc a\ndesc a", 5, 5),
+        ("writer\nschedule\nsend 1", 3, 2),
+        // A byte that is no number comes before the count of words, and one that is too large after.
+        ("command", 1, 2),
+        ("command ", 1, 3),
+        ("command x 1 2", 1, 3),
+        ("command 127 0", 1, 2),
+        ("command 128", 1, 2),
+        ("command 300", 1, 2),
+        ("command 300 5", 1, 3),
         // Remarks are counted, and later lines aren't looked at.
         ("; a\n\nring 63\nhello", 3, 3),
     ] {
@@ -190,6 +203,26 @@ fn as_many_as_there_may_be(rt: HostRuntime) -> Result<(), Fail> {
             b"task 32 0 0 0 0 M\n",
             Some(WorkFault::Line {
                 line: 35,
+                reason: 5,
+            }),
+        ),
+        (b"", 64, b"module 0 A\n", None),
+        (
+            b"",
+            65,
+            b"module 0 A\n",
+            Some(WorkFault::Line {
+                line: 65,
+                reason: 5,
+            }),
+        ),
+        (b"", 256, b"command 9\n", None),
+        (
+            b"",
+            257,
+            b"command 9\n",
+            Some(WorkFault::Line {
+                line: 257,
                 reason: 5,
             }),
         ),
@@ -267,5 +300,59 @@ fn what_is_said_of_a_target(rt: HostRuntime) -> Result<(), Fail> {
         assert_eq!(rt; task.name.bytes(), b"the name".as_slice());
     }
     the_first_fault();
+    Ok(())
+}
+
+#[test]
+fn what_a_host_is_told_and_asks(rt: HostRuntime) -> Result<(), Fail> {
+    let alloc = rt.alloc();
+    let plain = parse(alloc, b"writer\n")?;
+    assert!(rt; !plain.timed() && plain.lines().is_empty() && plain.commands().is_empty());
+    assert_eq!(rt; plain.modules().count(), 0);
+    let load = parse(
+        alloc,
+        b"time\ndesc N=x, O=y\nmodule 3 M=Net\nmodule 5 M=A b\ncommand 128 1\ncommand 9\nwriter\n0 start\nschedule\nsend\nstep 0\n",
+    )?;
+    assert_eq!(rt; load.timed(), true);
+    let mut lines = load.lines().iter();
+    assert_eq!(rt;
+        lines.next().map(|line| line.bytes()),
+        Some(b"N=x, O=y".as_slice())
+    );
+    assert!(rt; lines.next().is_none());
+    let modules = load.modules();
+    let told = (modules.get(0), modules.get(1), modules.get(2));
+    let want = (
+        Some(Module {
+            offset: 512,
+            events: 3,
+            name: b"M=Net",
+        }),
+        Some(Module {
+            offset: 515,
+            events: 5,
+            name: b"M=A b",
+        }),
+        None,
+    );
+    assert_eq!(rt; told, want);
+    let commands = [
+        Command {
+            byte: 128,
+            param: 1,
+        },
+        Command { byte: 9, param: 0 },
+    ];
+    assert_eq!(rt; load.commands(), commands.as_slice());
+    assert_eq!(rt; load.schedule().first(), Some(&Action::Send));
+    // One step and three groups of at most 2 + 2 * 7 items, for four packets, a line and two
+    // modules.
+    assert_eq!(rt;
+        load.need(),
+        Need {
+            items: 51,
+            bytes: 3373
+        }
+    );
     Ok(())
 }

@@ -1,7 +1,7 @@
 //! Texts read as workloads.
 ghost use Rattle.std.specs.Prelude.{◌≡◌, ℕ, ◌<◌, ◌^◌, length, IfOk, Err, Some};
 ghost use Rattle.sv_workload.specs.declared.fault.WorkFault.{WorkFault};
-ghost use Rattle.sv_workload.specs.Grammar.{first_reason, IsWorkload, SaysNothingOfLater};
+ghost use Rattle.sv_workload.specs.Grammar.{first_reason, IsWorkload};
 
 use crate::draft::Draft;
 use crate::fault::WorkFault;
@@ -13,11 +13,11 @@ use std::alloc::Global;
 /// reason: the first check that it fails. `NoMemory` says only that there was too little of it.
 ///
 /// The text is read once, line by line, and memory is taken for what is kept of it alone: each
-/// step, task and turn, and a name, a printed text or a call's numbers in a piece of their own.
+/// step, task, command and turn, and a name, a printed text or a call's numbers in a piece of their
+/// own.
 pub fn parse(alloc: Global, text: &[u8]) -> Result<Workload, WorkFault>
     requires { length text.now < 2 ^ 32 }
     ensures ok { IfOk result (λ load. IsWorkload text.now load) }
-    ensures later { IfOk result SaysNothingOfLater }
     ensures line { (line reason : ℕ) → result ≡ Err (WorkFault.Line line reason)
         → first_reason text.now ≡ Some (line, reason) }
 {
@@ -35,5 +35,5 @@ pub fn parse(alloc: Global, text: &[u8]) -> Result<Workload, WorkFault>
         }
         rest = behind;
     }
-    Ok(Workload::of(alloc, draft))
+    Ok(Workload::of(draft))
 }

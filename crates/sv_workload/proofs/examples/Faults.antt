@@ -5,6 +5,7 @@ use Rattle.std.proofs.Common.{◌≡◌, ◌∷◌, [], ◌++◌, refl, Some}
 use Rattle.sv_workload.specs.declared.fault.LineFault.TheVariants.{UnknownWord, Shape, Number}
 use Rattle.sv_workload.specs.declared.fault.LineFault.TheVariants.{Repeated, TooMany, Unaligned}
 use Rattle.sv_workload.specs.declared.fault.LineFault.TheVariants.{Misplaced, BadText, NoSuchWriter}
+use Rattle.sv_workload.specs.declared.fault.LineFault.TheVariants.{ModuleFull}
 use Rattle.sv_workload.specs.Grammar.{first_fault}
 
 -- the worked refusals
@@ -52,9 +53,6 @@ a_longer_word = refl
 
 a_shorter_word : first_fault (codes "rin 64") ≡ Some (1, UnknownWord)
 a_shorter_word = refl
-
-a_word_of_later : first_fault (codes "time") ≡ Some (1, UnknownWord)
-a_word_of_later = refl
 
 -- another part of the text
 
@@ -216,6 +214,55 @@ a_33rd_task :
     (codes
     "task 536870912 0 0 0 0 M\ntask 536870916 0 0 0 0 M\ntask 536870920 0 0 0 0 M\ntask 536870924 0 0 0 0 M\ntask 536870928 0 0 0 0 M\ntask 536870932 0 0 0 0 M\ntask 536870936 0 0 0 0 M\ntask 536870940 0 0 0 0 M\ntask 536870944 0 0 0 0 M\ntask 536870948 0 0 0 0 M\ntask 536870952 0 0 0 0 M\ntask 536870956 0 0 0 0 M\ntask 536870960 0 0 0 0 M\ntask 536870964 0 0 0 0 M\ntask 536870968 0 0 0 0 M\ntask 536870972 0 0 0 0 M\ntask 536870976 0 0 0 0 M\ntask 536870980 0 0 0 0 M\ntask 536870984 0 0 0 0 M\ntask 536870988 0 0 0 0 M\ntask 536870992 0 0 0 0 M\ntask 536870996 0 0 0 0 M\ntask 536871000 0 0 0 0 M\ntask 536871004 0 0 0 0 M\ntask 536871008 0 0 0 0 M\ntask 536871012 0 0 0 0 M\ntask 536871016 0 0 0 0 M\ntask 536871020 0 0 0 0 M\ntask 536871024 0 0 0 0 M\ntask 536871028 0 0 0 0 M\ntask 536871032 0 0 0 0 M\ntask 536871036 0 0 0 0 M\ntask 536871040 0 0 0 0 M") ≡ Some (33, TooMany)
 a_33rd_task = refl
+
+-- what describes the target, and the host
+
+a_second_time : first_fault (codes "time\ntime") ≡ Some (2, Repeated)
+a_second_time = refl
+
+a_time_with_a_word : first_fault (codes "time 1") ≡ Some (1, Shape)
+a_time_with_a_word = refl
+
+a_time_after_a_writer : first_fault (codes "writer\ntime") ≡ Some (2, Misplaced)
+a_time_after_a_writer = refl
+
+a_description_without_text : first_fault (codes "desc ") ≡ Some (1, Shape)
+a_description_without_text = refl
+
+a_fifth_description : first_fault (codes "desc a\ndesc a\ndesc a\ndesc a\ndesc a")
+    ≡ Some (5, TooMany)
+a_fifth_description = refl
+
+a_module_without_text : first_fault (codes "module 3") ≡ Some (1, Shape)
+a_module_without_text = refl
+
+a_module_past_the_last_identifier : first_fault (codes "module 15872 A\nmodule 1 B")
+    ≡ Some (2, ModuleFull)
+a_module_past_the_last_identifier = refl
+
+a_module_of_16385_events : first_fault (codes "module 16385 A") ≡ Some (1, Number)
+a_module_of_16385_events = refl
+
+a_command_that_is_no_number : first_fault (codes "command x 1 2") ≡ Some (1, Number)
+a_command_that_is_no_number = refl
+
+a_command_alone : first_fault (codes "command") ≡ Some (1, Shape)
+a_command_alone = refl
+
+a_command_with_a_space : first_fault (codes "command ") ≡ Some (1, Number)
+a_command_with_a_space = refl
+
+a_command_that_wants_a_parameter : first_fault (codes "command 300") ≡ Some (1, Shape)
+a_command_that_wants_a_parameter = refl
+
+a_command_too_large : first_fault (codes "command 300 5") ≡ Some (1, Number)
+a_command_too_large = refl
+
+a_turn_of_the_host_with_a_number : first_fault (codes "writer\nschedule\nsend 1") ≡ Some (3, Shape)
+a_turn_of_the_host_with_a_number = refl
+
+a_turn_of_the_host_too_early : first_fault (codes "writer\nsend") ≡ Some (2, Misplaced)
+a_turn_of_the_host_too_early = refl
 
 -- no such writer
 

@@ -1,5 +1,5 @@
--- Lines whose keywords no text can have yet: a description, a module, a command, a turn of the
--- host.
+-- Lines after other lines: descriptions, modules, commands and turns of the host, each on its own
+-- or after as many as there may be.
 use Rattle.std.specs.Prelude.{codes, ◌≡◌, ℕ, List, [], ◌∷◌, Some, None, replicate}
 use Rattle.std.proofs.Common.{refl}
 use Rattle.sv_workload.specs.declared.fault.LineFault.TheVariants.{Shape, Number, Repeated, TooMany}

@@ -144,6 +144,23 @@ a_schedule :
     })
 a_schedule = record { good = refl; meaning = refl }
 
+-- what describes the target, what the host asks, and its turns
+a_host :
+    IsWorkload
+    (codes
+    "time\ndesc N=x, O=y\nmodule 3 M=Net\nmodule 0 M=A b\ncommand 128 0\ncommand 9\nwriter\n0 start\nschedule\nsend\nstep 0\nsend") (record nothing {
+      timed = true;
+      lines = codes "N=x, O=y" ∷ [];
+      modules =
+          record { events = 3; name = codes "M=Net" } ∷
+          record { events = 0; name = codes "M=A b" } ∷ [];
+      commands = record { byte = 128; param = 0 } ∷ record { byte = 9; param = 0 } ∷ [];
+      scripts = (record { advance = 0; act = act.Start } ∷ []) ∷ [];
+      scheduled = true;
+      schedule = action.Send ∷ action.Step 0 1 ∷ action.Send ∷ [];
+    })
+a_host = record { good = refl; meaning = refl }
+
 -- identifiers are counted from the base on, and round at 2 ^ 32
 identifiers :
     IsWorkload

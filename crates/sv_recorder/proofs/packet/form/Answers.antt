@@ -7,7 +7,7 @@ use Rattle.sv_recorder.proofs.Entries.{block_short}
 use Rattle.sv_recorder.proofs.packet.form.Goals as goal
 
 pub returns-in-Reply-clause-short : goal.returns-in-Reply-clause-short
-returns-in-Reply-clause-short c =
+returns-in-Reply-clause-short g c =
     let load = c.args.load.now in
     let kind = c.in-Reply.kind in
     let index = c.in-Reply.index in

@@ -6,6 +6,10 @@ use Rattle.sv_recorder.specs.Replies.{IsReadyFor, IsGiving}
 use Rattle.sv_recorder.proofs.Giving as giving
 use Rattle.sv_recorder.proofs.book.Book.lines.Goals as goal
 
+pub loop-index-init : goal.loop-index-init
+loop-index-init g c =
+    giving.giving-all c.args.self.now (replies_for kinds.Line c.args.self.now.load.now.lines)
+
 pub reply-requires-clause-ready : goal.reply-requires-clause-ready
 reply-requires-clause-ready g c =
     let old = c.args.self.now in
@@ -18,8 +22,8 @@ reply-requires-clause-ready g c =
       ap length c.lines.ensures.told,
     ) in
     let rest = giving.giving-ready old mid (replies_for kinds.Line load.lines)
-    (giving.lines_left load k) c.requires.ready c.loop-index.invariant in
-    giving.ready-first mid (Reply kinds.Line k ∷ []) (giving.lines_left load (k + 1))
+    (giving.replies_left kinds.Line load.lines k) c.requires.ready c.loop-index.invariant in
+    giving.ready-first mid (Reply kinds.Line k ∷ []) (giving.replies_left kinds.Line load.lines (k + 1))
     (subst (λ os. IsReadyFor os mid) (giving.lines-next load k more) rest)
 
 pub loop-index-preserved : goal.loop-index-preserved
@@ -35,6 +39,6 @@ loop-index-preserved g c =
     ) in
     let all = replies_for kinds.Line load.lines in
     giving.giving-step old mid c.reply.new.self all (Reply kinds.Line k ∷ [])
-    (giving.lines_left load (k + 1))
+    (giving.replies_left kinds.Line load.lines (k + 1))
     (subst (λ os. IsGiving all os old mid) (giving.lines-next load k more)
     c.loop-index.invariant) c.reply.ensures

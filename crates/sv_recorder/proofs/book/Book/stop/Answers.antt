@@ -1,19 +1,51 @@
-use Rattle.std.proofs.Common.{refl}
-use Rattle.sv_journal.specs.declared.journal.Origin.TheVariants.{Call}
-use Rattle.sv_journal.specs.declared.journal.Outcome.TheVariants.{Handled}
-use Rattle.sv_recorder.proofs.Goes.{goes-note}
-use Rattle.sv_recorder.proofs.Entries.{headed_one}
-use Rattle.sv_recorder.proofs.Books.{stop-holds}
+use Rattle.std.proofs.Common.{refl, sym, ap, arith, ◌||◌, ◌∷◌, []}
+use Rattle.sv_journal.specs.declared.journal.Kind.TheVariants as kinds
+use Rattle.sv_journal.specs.declared.journal.Origin.TheVariants.{Reply}
+use Rattle.sv_recorder.specs.Book.{Goes}
+use Rattle.sv_recorder.specs.Formed.{packet_bytes}
+use Rattle.sv_recorder.proofs.Books.{owes-goes, owes-ready, one_ready, stop-holds}
+use Rattle.sv_recorder.proofs.Giving.{goes_one, ready_one}
+use Rattle.sv_recorder.proofs.Goes.{goes-to}
+use Rattle.sv_recorder.proofs.Groups.{stop_owes}
 use Rattle.sv_recorder.proofs.book.Book.stop.Goals as goal
+
+pub handle-requires-clause-control : goal.handle-requires-clause-control
+handle-requires-clause-control g c =
+    (stop_owes c.args.self.now.load.now c.args.head c.requires.start c.requires.stop).1
+
+pub handle-requires-clause-on : goal.handle-requires-clause-on
+handle-requires-clause-on g c = sym (ap (λ b. b || c.args.self.now.on) c.requires.start)
+
+pub handle-requires-clause-ready : goal.handle-requires-clause-ready
+handle-requires-clause-ready g c =
+    let owes = stop_owes c.args.self.now.load.now c.args.head c.requires.start c.requires.stop in
+    one_ready c.args.self.now c.args.head owes.1 c.requires.ready
+
+pub packet-requires-clause-ready : goal.packet-requires-clause-ready
+packet-requires-clause-ready g c =
+    let old = c.args.self.now in
+    let owes = stop_owes old.load.now c.args.head c.requires.start c.requires.stop in
+    let stop = Reply kinds.TraceStop 0 in
+    ready_one c.handle.new.self stop refl refl
+    (owes-ready old c.handle.new.self c.args.head (stop ∷ []) owes.1 owes.0 c.requires.ready
+    c.handle.ensures)
 
 pub returns-clause-kept : goal.returns-clause-kept
 returns-clause-kept g c =
-    let u = g.U.UpWriter in
     let old = c.args.self.now in
-    let noted = goes-note old c.note.new.self (Call c.args.writer c.args.step) Handled
-    c.note.ensures.stays c.note.ensures.up c.note.ensures.stays.capacity c.note.ensures.item
-    (headed_one (Call c.args.writer c.args.step) old.moment (u.freed old.up) Handled) refl refl
-    refl in
-    stop-holds old c.note.new.self c.packet.new.self c.args.writer c.args.step
-    c.note.ensures.stays c.note.ensures.up c.note.ensures.item c.requires.act c.packet.ensures.kept
-    noted
+    let owes = stop_owes old.load.now c.args.head c.requires.start c.requires.stop in
+    stop-holds old c.handle.new.self c.packet.new.self c.args.head c.handle.ensures owes.0
+    c.packet.ensures.kept
+
+pub returns-clause-goes : goal.returns-clause-goes
+returns-clause-goes g c =
+    let old = c.args.self.now in
+    let mid = c.handle.new.self in
+    let packed = c.packet.new.self in
+    let stop = Reply kinds.TraceStop 0 in
+    let owes = stop_owes old.load.now c.args.head c.requires.start c.requires.stop in
+    let goes = c.packet.ensures.records.goes in
+    let off = goes-to mid packed _ [] 2 (packet_bytes mid.load.now stop) goes refl refl refl refl
+    refl goes.pending in
+    owes-goes old mid _ c.args.head (stop ∷ []) owes.1 owes.0 c.handle.ensures
+    (goes_one mid _ [] stop refl refl off)

@@ -1,4 +1,3 @@
-use Rattle.std.proofs.Common.{◌∙◌}
 use Rattle.sv_recorder.proofs.Books.{sync-holds, sync-goes}
 use Rattle.sv_recorder.proofs.book.Book.sync.Goals as goal
 
@@ -9,5 +8,5 @@ returns g c = record {
   goes = sync-goes c.args.self.now c.write.new.self c.write.result c.write.ensures.stays
       c.args.self.now.ring c.write.ensures.stays.same c.write.ensures.stays.capacity
       c.write.ensures.writes c.write.ensures.moves;
-  on = c.write.ensures.stays.on ∙ c.requires.on;
+  on = c.write.ensures.stays.on;
 }

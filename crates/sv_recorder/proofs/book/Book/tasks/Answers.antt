@@ -6,6 +6,10 @@ use Rattle.sv_recorder.specs.Replies.{IsReadyFor, IsGiving}
 use Rattle.sv_recorder.proofs.Giving as giving
 use Rattle.sv_recorder.proofs.book.Book.tasks.Goals as goal
 
+pub loop-index-init : goal.loop-index-init
+loop-index-init g c =
+    giving.giving-all c.args.self.now (task_replies c.args.self.now.load.now)
+
 pub reply-requires-clause-ready : goal.reply-requires-clause-ready
 reply-requires-clause-ready g c =
     let old = c.args.self.now in

@@ -1,7 +1,6 @@
-use Rattle.sv_journal.specs.declared.journal.Kind.TheVariants as kinds
-use Rattle.sv_journal.specs.Legal.{replies_for, task_replies}
+use Rattle.sv_journal.specs.Legal.{task_replies}
 use Rattle.sv_recorder.specs.Replies.{IsGiving}
-use Rattle.sv_recorder.proofs.Giving.{lines_left, tasks_left}
+use Rattle.sv_recorder.proofs.Giving.{tasks_left}
 use Rattle.sv_recorder.proofs.book.Book.tasks.Given as goal
 
 abbrev pub invariant-loop-index : goal.invariant-loop-index

@@ -38,10 +38,10 @@ returns-in-Turn c =
     let passed = passes lines line none in
     let made = c.action.ensures e (fit_of lines line passed)
     (low_turn c.args.self.now lines line stands passed few (fit_of lines line passed)
-    c.in-Turn.word e c.requires.known) in
+    c.in-Turn.word e) in
     subst (λ (d : Draft). Stands d (lines ++ line ∷ [])) (sym now)
-    (stands-turn c.args.self.now lines line stands passed c.in-Turn.word c.action.result e
-    c.requires.known made)) c.add_turn.ensures
+    (stands-turn c.args.self.now lines line stands passed c.in-Turn.word c.action.result e made))
+    c.add_turn.ensures
 
 pub add_turn-requires-clause-few : goal.add_turn-requires-clause-few
 add_turn-requires-clause-few c =
@@ -59,6 +59,5 @@ add_turn-requires-clause-turn c =
     let passed = passes good.0 line good.2 in
     let fit = fit_of good.0 line passed in
     let made = c.action.ensures e fit
-    (low_turn c.args.self.now good.0 line good.1 passed few fit c.in-Turn.word e
-    c.requires.known) in
+    (low_turn c.args.self.now good.0 line good.1 passed few fit c.in-Turn.word e) in
     turn_is c.args.self.now good.0 line good.1 passed fit c.in-Turn.word c.action.result e made

@@ -5,7 +5,7 @@ use Rattle.sv_workload.specs.declared.fault.LineFault.TheVariants.{NoSuchWriter,
 use Rattle.sv_workload.specs.Checks.{is_unaligned, is_repeated, is_too_many, has_no_writer}
 use Rattle.sv_workload.specs.Checks.{has_no_room}
 use Rattle.sv_workload.specs.Checking.{later_checks}
-use Rattle.sv_workload.proofs.Faulted.{failed, passed, room}
+use Rattle.sv_workload.proofs.Faulted.{failed, passed}
 use Rattle.sv_workload.proofs.draft.Draft.later_fault.Goals as goal
 
 pub returns-then-is_unaligned : goal.returns-then-is_unaligned
@@ -40,6 +40,19 @@ returns-then-has_no_writer c = λ lines s. sym (
     ∙ failed has_no_writer NoSuchWriter (drop 4 later_checks) lines c.args.line.now
     (sym (c.has_no_writer.ensures lines s) ∙ c.if-has_no_writer.true))
 
+pub returns-then-has_no_room : goal.returns-then-has_no_room
+returns-then-has_no_room c = λ lines s. sym (
+    passed is_unaligned Unaligned (drop 1 later_checks) lines c.args.line.now
+    (sym (c.is_unaligned.ensures lines s) ∙ c.if-is_unaligned.false)
+    ∙ passed is_repeated Repeated (drop 2 later_checks) lines c.args.line.now
+    (sym (c.is_repeated.ensures lines s) ∙ c.if-is_repeated.false)
+    ∙ passed is_too_many TooMany (drop 3 later_checks) lines c.args.line.now
+    (sym (c.is_too_many.ensures lines s) ∙ c.if-is_too_many.false)
+    ∙ passed has_no_writer NoSuchWriter (drop 4 later_checks) lines c.args.line.now
+    (sym (c.has_no_writer.ensures lines s) ∙ c.if-has_no_writer.false)
+    ∙ failed has_no_room ModuleFull (drop 5 later_checks) lines c.args.line.now
+    (sym (c.has_no_room.ensures lines s) ∙ c.if-has_no_room.true))
+
 pub returns : goal.returns
 returns c = λ lines s. sym (
     passed is_unaligned Unaligned (drop 1 later_checks) lines c.args.line.now
@@ -51,4 +64,4 @@ returns c = λ lines s. sym (
     ∙ passed has_no_writer NoSuchWriter (drop 4 later_checks) lines c.args.line.now
     (sym (c.has_no_writer.ensures lines s) ∙ c.if-has_no_writer.false)
     ∙ passed has_no_room ModuleFull (drop 5 later_checks) lines c.args.line.now
-    (room lines c.args.line.now c.requires.known))
+    (sym (c.has_no_room.ensures lines s) ∙ c.if-has_no_room.false))

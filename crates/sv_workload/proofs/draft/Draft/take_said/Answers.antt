@@ -1,15 +1,9 @@
-use Rattle.std.proofs.Common.{◌≡◌, false, [], ◌∷◌, ◌++◌, Some, None, sym, ap, subst, ◌∙◌}
+use Rattle.std.proofs.Common.{◌≡◌, [], ◌∷◌, ◌++◌, Some, None, sym, ap, subst, ◌∙◌}
 use Rattle.sv_workload.specs.declared.fault.LineFault.{LineFault}
 use Rattle.sv_workload.specs.Line.{Line}
 use Rattle.sv_workload.specs.Checks.{fault_of}
-use Rattle.sv_workload.specs.Draft.{Stands, is_later}
-use Rattle.sv_workload.proofs.Walking.{never_later}
+use Rattle.sv_workload.specs.Draft.{Stands}
 use Rattle.sv_workload.proofs.draft.Draft.take_said.Goals as goal
-
-pub fault-requires : goal.fault-requires
-fault-requires c =
-    subst (λ (l : Line). is_later l.keyword ≡ false) (sym c.of-line.ensures)
-    (never_later c.args.bytes.now)
 
 pub returns-in-Some-clause-fault : goal.returns-in-Some-clause-fault
 returns-in-Some-clause-fault c = λ lines fault stands is.
@@ -17,11 +11,6 @@ returns-in-Some-clause-fault c = λ lines fault stands is.
     (c.fault.ensures lines stands) ∙ c.in-Some.is in
     let same : c.in-Some.fault ≡ fault = cc in
     ap (fault_of lines) (sym c.of-line.ensures) ∙ found ∙ ap (λ (f : LineFault). Some f) same
-
-pub add-requires-clause-known : goal.add-requires-clause-known
-add-requires-clause-known c =
-    subst (λ (l : Line). is_later l.keyword ≡ false) (sym c.of-line.ensures)
-    (never_later c.args.bytes.now)
 
 pub returns-clause-good : goal.returns-clause-good
 returns-clause-good c = λ lines stands is.

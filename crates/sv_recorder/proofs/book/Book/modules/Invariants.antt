@@ -1,0 +1,11 @@
+use Rattle.sv_journal.specs.declared.journal.Kind.TheVariants as kinds
+use Rattle.sv_journal.specs.Legal.{replies_for}
+use Rattle.sv_recorder.specs.Replies.{IsGiving}
+use Rattle.sv_recorder.proofs.Giving.{replies_left}
+use Rattle.sv_recorder.proofs.book.Book.modules.Given as goal
+
+abbrev pub invariant-loop-index : goal.invariant-loop-index
+invariant-loop-index g l =
+    IsGiving (replies_for kinds.Module l.fn.self.load.now.modules) (replies_left kinds.Module
+    l.fn.self.load.now.modules l.index)
+    l.fn.self l.self

@@ -1,0 +1,13 @@
+use Rattle.std.proofs.Common.{ℕ, ap, ◌∙◌}
+use Rattle.sv_workload.specs.declared.keyword.Keyword.{Keyword}
+use Rattle.sv_workload.specs.Checking.{lacks_room}
+use Rattle.sv_workload.proofs.Numbered.{no_room}
+use Rattle.sv_workload.proofs.draft.Draft.has_no_room.Goals as goal
+
+pub returns : goal.returns
+returns c = λ lines s.
+    let first = c.first_number.ensures in
+    c.lacks_room.ensures
+    ∙ ap (λ (k : Keyword). lacks_room c.args.self.now k c.first_number.result) c.keyword.ensures
+    ∙ ap (λ (n : ℕ). lacks_room c.args.self.now c.args.line.now.keyword n) first
+    ∙ no_room c.args.self.now lines c.args.line.now s

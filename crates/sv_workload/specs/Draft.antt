@@ -1,6 +1,7 @@
 -- A workload in the making: what the lines so far told.
 use Rattle.std.specs.Prelude.{◌≡◌, ◌≤◌, Bool, List, [], ◌∷◌, ◌++◌, length}
 use Rattle.std.specs.Prelude.{ℕ, filter_map, None, All}
+use Rattle.sv_prim.specs.Text.{AreBytes}
 use Rattle.sv_desc.specs.Modules.{ModuleRow}
 use Rattle.sv_workload.specs.declared.settings.Settings.{Settings}
 use Rattle.sv_workload.specs.declared.load.Task.{Task}
@@ -41,10 +42,12 @@ pub record IsSound (settings : Settings) (lines : List (List ℕ)) (tasks : List
   pub few_lines : length lines ≤ 4
   pub some_lines : All (λ text. 1 ≤ length text) lines
   pub short_lines : All (λ text. length text ≤ 128) lines
+  pub byte_lines : All AreBytes lines
   pub few_tasks : length tasks ≤ 32
   pub tasks_are : All IsTask tasks
   pub tasks_hold : All HasWords tasks
   pub short_names : All (λ task. length task.name ≤ 128) tasks
+  pub byte_names : All (λ task. AreBytes task.name) tasks
   pub few_commands : length commands ≤ 256
   pub commands_are : All IsAsked commands
   pub few_scripts : length scripts ≤ most_writers

@@ -43,6 +43,8 @@ impl Draft {
         requires short { length text ≤ 128 }
         ensures { OnOk result (self.new ≡ record self.old { lines = self.old.lines ++ text ∷ [] }) }
     {
+        // A text is made of bytes, by what its type keeps.
+        let _ = text.bytes();
         if self.lines.push(text).is_err() {
             return Err(NoMemory);
         }
@@ -83,6 +85,7 @@ impl Draft {
         requires words { HasWords task }
         ensures { OnOk result (self.new ≡ record self.old { tasks = self.old.tasks ++ task ∷ [] }) }
     {
+        let _ = task.name.bytes();
         if self.tasks.push(task).is_err() {
             return Err(NoMemory);
         }

@@ -96,28 +96,6 @@ more_groups load before more old new =
     ∙ (groups_of-append load (origins_of before) (origins_of more)
     ∙ ap (λ os. os ++ groups_of load (origins_of more)) (sym old.groups)))))
 
-abbrev pub IsAnswer : Item → Type 0
-IsAnswer i = is_head i.origin ≡ false
-
--- no head stands among these
-pub all_answers : (items : List Item) → filter is_head (origins_of items) ≡ [] → All IsAnswer items
-all_answers [] none = All-nil IsAnswer
-all_answers (i ∷ items) none =
-    at (is_overflow i.origin) (is_head i.origin) refl refl none (all_answers items) where
-      at : (b c : Bool) → is_overflow i.origin ≡ b → is_head i.origin ≡ c → filter is_head
-          (cond (not b) (i.origin ∷ origins_of items) (origins_of items)) ≡ []
-          → (filter is_head (origins_of items) ≡ [] → All IsAnswer items) → All IsAnswer (i ∷ items)
-      at true c e f none more = All-cons IsAnswer i items (not_head i.origin e) (more none)
-      at false true e f none more =
-          let shape : i.origin ∷ filter is_head (origins_of items) ≡ [] = sym
-          (ap (λ b. cond b (i.origin ∷ filter is_head (origins_of items))
-          (filter is_head (origins_of items))) f) ∙ none in
-          cc
-      at false false e f none more = All-cons IsAnswer i items f
-          (more (sym (ap
-          (λ b. cond b (i.origin ∷ filter is_head (origins_of items))
-          (filter is_head (origins_of items))) f) ∙ none))
-
 -- EACH ITEM
 
 -- what holds of each item of a longer journal

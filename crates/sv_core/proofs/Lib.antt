@@ -16,6 +16,7 @@ pub mod BadTurns
 pub mod ByPlan
 pub mod GoingOn
 pub mod RunSections
+pub mod Commands
 pub mod EitherWay
 pub mod Rising
 pub mod Gathered

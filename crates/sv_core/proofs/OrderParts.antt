@@ -165,14 +165,56 @@ steps_through load asked writer few (suc count) through h =
           ∙ (append-nil (possible load (replicate count t ++ asked))
           ∙ rest more)
 
--- a send is not possible then
-pub send_none : (load : Load) (earlier : List Turn) → load.commands ≡ []
-    → is_possible load earlier Sends ≡ false
-send_none load earlier unasked =
-    lt_false (count_by is_send earlier) (length load.commands)
-    (least (ap length unasked)) where
-      least : {a b : ℕ} → a ≡ 0 → a ≤ b
-      least e = omega arith
+-- as many sends as are asked, or one for each command
+pub count_sends : (load : Load) (asked : List Turn)
+    → count_by is_send (possible load asked)
+    ≡ min (count_by is_send asked) (length load.commands)
+count_sends load [] = omega arith
+count_sends load (t ∷ earlier) =
+    count-append is_send (possible load earlier) (cond (is_possible load earlier t) (t ∷ []) [])
+    ∙ (ap (λ n. n + count_by is_send (cond (is_possible load earlier t) (t ∷ []) []))
+    (count_sends load earlier)
+    ∙ (at t ∙ ap (λ n. min n (length load.commands)) (sym (count-cons is_send t earlier)))) where
+      c : ℕ
+      c = count_by is_send earlier
+
+      other : (t : Turn) (b : Bool) → is_send t ≡ false
+          → min c (length load.commands) + count_by is_send (cond b (t ∷ []) [])
+          ≡ min (cond (is_send t) 1 0 + c) (length load.commands)
+      other t true e =
+          ap (λ n. min c (length load.commands) + n)
+          (count_one is_send t ∙ ap (λ b. cond b 1 0) e)
+          ∙ (omega arith ∙ ap (λ b. min (cond b 1 0 + c) (length load.commands)) (sym e))
+      other t false e =
+          omega arith ∙ ap (λ b. min (cond b 1 0 + c) (length load.commands)) (sym e)
+
+      own : (b : Bool) → nat_lt c (length load.commands) ≡ b
+          → min c (length load.commands) + count_by is_send (cond b (Sends ∷ []) [])
+          ≡ min (1 + c) (length load.commands)
+      own true h =
+          let below : c < length load.commands = search (rules, h) in
+          ap (λ n. min c (length load.commands) + n) (count_one is_send Sends)
+          ∙ omega (arith, below)
+      own false h =
+          let past : length load.commands ≤ c = search (rules, h) in
+          omega (arith, past)
+
+      at : (t : Turn) → min c (length load.commands)
+          + count_by is_send (cond (is_possible load earlier t) (t ∷ []) [])
+          ≡ min (cond (is_send t) 1 0 + c) (length load.commands)
+      at (Takes_step v) = other (Takes_step v) (is_possible load earlier (Takes_step v)) refl
+      at (Reads most) = other (Reads most) true refl
+      at Reads_all = other Reads_all true refl
+      at Sends = own (nat_lt c (length load.commands)) refl
+
+-- a send after the possible turns is possible exactly where a command is left
+pub send-same : (load : Load) (asked : List Turn)
+    → is_possible load asked Sends
+    ≡ nat_lt (count_by is_send (possible load asked)) (length load.commands)
+send-same load asked =
+    sym
+    (ap (λ n. nat_lt n (length load.commands)) (count_sends load asked)
+    ∙ within (count_by is_send asked) (length load.commands))
 
 -- LINES
 

@@ -1,22 +1,26 @@
 -- A recorder that takes the lines of a schedule and the rounds of an order.
-use Rattle.std.proofs.Common.{◌≡◌, ℕ, ◌+◌, ◌<◌, ◌≤◌, true, false, cond, List, [], ◌∷◌}
+use Rattle.std.proofs.Common.{◌≡◌, ℕ, zero, suc, ◌+◌, ◌<◌, ◌≤◌, true, false, cond, List, [], ◌∷◌}
+use Rattle.std.proofs.Common.{refl, append_assoc}
 use Rattle.std.proofs.Common.{◌++◌, length, reverse, replicate, ◌⊎◌, inl, inr, sym, ap}
 use Rattle.std.proofs.Common.{◌∙◌, subst, arith, append-nil, add-one}
-use Rattle.std.specs.Prelude.{max, slice_index_or}
-use Rattle.std.proofs.lemmas.Bool.{cases_order}
+use Rattle.std.specs.Prelude.{max, count_by, slice_index_or, nat_lt, Bool, ◌-◌}
+use Rattle.std.proofs.lemmas.List.{replicate_more}
+use Rattle.std.proofs.lemmas.Bool.{cases_order, cases_lt}
 use Rattle.sv_workload.specs.declared.load.Action.{Action}
 use Rattle.sv_workload.specs.declared.load.Action.TheVariants as actions
 use Rattle.sv_workload.specs.Load.{Load, script_of}
 use Rattle.sv_workload.specs.Need.{steps_in}
 use Rattle.sv_journal.specs.declared.journal.Item.{Item}
 use Rattle.sv_recorder.specs.Recording.{Recording}
-use Rattle.sv_core.specs.Order.{Takes_step, Reads, Sends}
-use Rattle.sv_core.specs.Order.{line_turns, is_possible, possible}
-use Rattle.sv_core.specs.Played.{IsPlayed, with_step, played_rounds}
-use Rattle.sv_core.proofs.OrderParts.{send_none, asked_by, line_more, reverse-replicate}
+use Rattle.sv_core.specs.Order.{Turn, Takes_step, Reads, Sends}
+use Rattle.sv_core.specs.Order.{line_turns, is_possible, possible, is_send, scheduled}
+use Rattle.sv_core.specs.Played.{IsPlayed, IsSending, with_step, played_rounds}
+use Rattle.sv_core.proofs.Counts.{lt_true, lt_false, count-cons}
+use Rattle.sv_core.proofs.TurnCounts.{count-append}
+use Rattle.sv_core.proofs.OrderParts.{send-same, asked_by, line_more, reverse-replicate}
 use Rattle.sv_core.proofs.RoundParts.{round_part, part_all}
 use Rattle.sv_core.proofs.Rounds.{part_step, part_idle, rounds_more, script_within}
-use Rattle.sv_core.proofs.Playing.{own_calls, played-read_all}
+use Rattle.sv_core.proofs.Playing.{own_calls, played-read_all, played-send}
 
 -- THE SCHEDULE
 
@@ -44,20 +48,96 @@ played-line load at d recorder most below line p =
     (sym
     (line_more load at d below ∙ ap (λ a. reverse (line_turns a) ++ asked_by load at) line)) p
 
--- a line with a send, for which there is no command
-pub played-send : (load : Load) (at : ℕ) (d : Action) (recorder : Recording)
+-- the turns asked for, with a line of a send
+line_is : (load : Load) (at : ℕ) (d : Action) → at < length load.schedule
+    → slice_index_or load.schedule at d ≡ actions.Send
+    → asked_by load (at + 1) ≡ Sends ∷ asked_by load at
+line_is load at d below line =
+    line_more load at d below ∙ ap (λ a. reverse (line_turns a) ++ asked_by load at) line
+
+-- a line with a send: of the next command, or of none where none is left
+pub played-line_send : (load : Load) (at : ℕ) (d : Action) (before after : Recording) (sent : ℕ)
     → at < length load.schedule → slice_index_or load.schedule at d ≡ actions.Send
-    → IsPlayed load (possible load (asked_by load at)) recorder
-    → IsPlayed load (possible load (asked_by load (at + 1))) recorder
-played-send load at d recorder below line p =
-    subst (λ ts. IsPlayed load (possible load ts) recorder)
-    (sym
-    (line_more load at d below ∙ ap (λ a. reverse (line_turns a) ++ asked_by load at) line))
-    (subst (λ ts. IsPlayed load ts recorder)
-    (sym
-    (ap (λ b. possible load (asked_by load at) ++ cond b (Sends ∷ []) [])
-    (send_none load (asked_by load at) p.unasked)
-    ∙ append-nil (possible load (asked_by load at)))) p)
+    → IsPlayed load (possible load (asked_by load at)) before
+    → (length load.commands ≤ count_by is_send (possible load (asked_by load at))
+    → (sent ≡ count_by is_send (possible load (asked_by load at))) × (after ≡ before))
+    → (count_by is_send (possible load (asked_by load at)) < length load.commands
+    → (sent ≡ count_by is_send (possible load (asked_by load at)) + 1)
+    × IsSending load before after (count_by is_send (possible load (asked_by load at))))
+    → IsPlayed load (possible load (asked_by load (at + 1))) after
+    × (sent ≡ count_by is_send (possible load (asked_by load (at + 1))))
+played-line_send load at d before after sent below line p none some =
+    by (cases_lt so_far (length load.commands)) where
+      turns : List Turn
+      turns = possible load (asked_by load at)
+
+      so_far : ℕ
+      so_far = count_by is_send turns
+
+      next : (b : Bool) → nat_lt so_far (length load.commands) ≡ b
+          → possible load (asked_by load (at + 1)) ≡ turns ++ cond b (Sends ∷ []) []
+      next b e =
+          ap (possible load) (line_is load at d below line)
+          ∙ ap (λ c. turns ++ cond c (Sends ∷ []) []) (send-same load (asked_by load at) ∙ e)
+
+      by : (so_far < length load.commands) ⊎ (length load.commands ≤ so_far)
+          → IsPlayed load (possible load (asked_by load (at + 1))) after
+          × (sent ≡ count_by is_send (possible load (asked_by load (at + 1))))
+      by (inl left) =
+          let s = some left in
+          let is = next true (lt_true so_far (length load.commands) left) in (
+            subst (λ ts. IsPlayed load ts after) (sym is)
+                (played-send load turns before after p s.1),
+            s.0 ∙ sym (ap (count_by is_send) is
+                ∙ (count-append is_send turns (Sends ∷ [])
+                ∙ ap (λ n. so_far + n) (count-cons is_send Sends []))),
+          )
+      by (inr past) =
+          let s = none past in
+          let is = next false (lt_false so_far (length load.commands) past)
+          ∙ append-nil turns in (
+            subst (λ ts. IsPlayed load ts after) (sym is)
+                (subst (IsPlayed load turns) (sym s.1) p),
+            s.0 ∙ sym (ap (count_by is_send) is),
+          )
+
+-- THE COMMANDS THAT ARE LEFT
+
+-- how many were sent by then
+sends-left : (load : Load) (done : ℕ)
+    → count_by is_send (scheduled load ++ replicate done Sends)
+    ≡ count_by is_send (scheduled load) + done
+sends-left load done =
+    count-append is_send (scheduled load) (replicate done Sends)
+    ∙ ap (λ n. count_by is_send (scheduled load) + n) (all done) where
+      all : (n : ℕ) → count_by is_send (replicate n Sends) ≡ n
+      all zero = refl
+      all (suc n) =
+          count-cons is_send Sends (replicate n Sends) ∙ omega (arith, all n)
+
+-- one more of them is sent; `at` is how many were sent before
+pub played-left : (load : Load) (before after : Recording) (at : ℕ)
+    → count_by is_send (scheduled load) ≤ at
+    → IsPlayed load (scheduled load ++ replicate (at - count_by is_send (scheduled load)) Sends)
+    before
+    → IsSending load before after at
+    → IsPlayed load
+    (scheduled load ++ replicate ((at + 1) - count_by is_send (scheduled load)) Sends) after
+played-left load before after at least p s =
+    subst (λ ts. IsPlayed load ts after)
+    (append_assoc (scheduled load) (replicate done Sends) (Sends ∷ [])
+    ∙ ap (λ ts. scheduled load ++ ts)
+    (replicate_more done Sends ∙ ap (λ n. replicate n Sends) longer))
+    (played-send load (scheduled load ++ replicate done Sends) before after p
+    (subst (IsSending load before after) (sym (sends-left load done ∙ here)) s)) where
+      done : ℕ
+      done = at - count_by is_send (scheduled load)
+
+      here : count_by is_send (scheduled load) + done ≡ at
+      here = omega (arith, least)
+
+      longer : done + 1 ≡ (at + 1) - count_by is_send (scheduled load)
+      longer = omega (arith, least)
 
 -- THE ROUNDS
 

@@ -14,8 +14,8 @@ use Rattle.sv_core.specs.Order.{Takes_step, Reads_all, Sends, is_step_of, is_sen
 use Rattle.sv_core.specs.Order.{is_possible}
 use Rattle.sv_core.specs.Order.{scheduled, sends_left, count_up, round_of}
 use Rattle.sv_core.specs.Order.{rounds_of, order_of}
-use Rattle.sv_core.specs.Played.{with_step, played_rounds}
-use Rattle.sv_core.proofs.Counts.{lt_true, lt_false}
+use Rattle.sv_core.specs.Played.{with_step, sent_first, played_rounds}
+use Rattle.sv_core.proofs.Counts.{lt_true, lt_false, count-not}
 use Rattle.sv_core.proofs.TurnCounts.{count-append, count-reverse}
 use Rattle.sv_core.proofs.OrderParts.{count_one, within}
 use Rattle.sv_core.proofs.RoundParts.{scheduled_of, scheduled-within, turns_in, round_part}
@@ -26,21 +26,36 @@ use Rattle.sv_core.proofs.RoundParts.{part_all, part_more, count_part}
 pub rounds_more : (load : Load) (rounds : ℕ)
     → played_rounds load (suc rounds) ≡ played_rounds load rounds ++ round_of load rounds
 rounds_more load rounds =
-    ap (λ ts. scheduled load ++ ts)
+    ap (λ ts. sent_first load ++ ts)
     (flat_map-append (round_of load) (count_up rounds) (rounds ∷ [])
     ∙ ap (λ ts. flat_map (round_of load) (count_up rounds) ++ ts)
     (append-nil (round_of load rounds)))
     ∙ sym
-    (append_assoc (scheduled load) (flat_map (round_of load) (count_up rounds))
+    (append_assoc (sent_first load) (flat_map (round_of load) (count_up rounds))
     (round_of load rounds))
+
+-- sends are no steps
+count_replicate : (writer n : ℕ) → count_by (is_step_of writer) (replicate n Sends) ≡ 0
+count_replicate writer zero = refl
+count_replicate writer (suc n) =
+    count-not (is_step_of writer) Sends (replicate n Sends) refl ∙ count_replicate writer n
+
+pub count_first : (load : Load) (writer : ℕ)
+    → count_by (is_step_of writer) (sent_first load) ≡ scheduled_of load writer
+count_first load writer =
+    count-append (is_step_of writer) (scheduled load) (sends_left load)
+    ∙ omega (
+      arith,
+      count_replicate writer (length load.commands - count_by is_send (scheduled load)),
+    )
 
 -- each writer has taken a step in each, or its whole script
 pub count_rounds : (load : Load) (writer rounds : ℕ) → writer < length load.scripts
     → count_by (is_step_of writer) (played_rounds load rounds)
     ≡ min (length (script_of load writer)) (scheduled_of load writer + rounds)
 count_rounds load writer zero below =
-    ap (count_by (is_step_of writer)) (append-nil (scheduled load))
-    ∙ omega (arith, scheduled-within load writer)
+    ap (count_by (is_step_of writer)) (append-nil (sent_first load))
+    ∙ (count_first load writer ∙ omega (arith, scheduled-within load writer))
 count_rounds load writer (suc rounds) below =
     ap (count_by (is_step_of writer)) (rounds_more load rounds)
     ∙ (count-append (is_step_of writer) (played_rounds load rounds) (round_of load rounds)
@@ -173,23 +188,22 @@ rounds_end load rounds (suc more) are =
       further : (a b : ℕ) → suc a + b ≡ suc (a + b)
       further a b = omega arith
 
--- the schedule, these rounds, and a last read are the order of the workload
-pub order_played : (load : Load) (rounds : ℕ) → load.commands ≡ [] → AreEnough load rounds
+-- the schedule, the commands that are left, these rounds, and a last read are the order of the
+-- workload
+pub order_played : (load : Load) (rounds : ℕ) → AreEnough load rounds
     → order_of load ≡ played_rounds load rounds ++ Reads_all ∷ []
-order_played load rounds unasked are =
+order_played load rounds are =
     let split : steps_in load ≡ (steps_in load - rounds) + rounds = omega (arith, are.most) in
     let all : rounds_of load ≡ flat_map (round_of load) (count_up rounds) =
     ap (λ n. flat_map (round_of load) (count_up n)) split
     ∙ rounds_end load rounds (steps_in load - rounds) are in
-    let none : sends_left load ≡ [] =
-    ap (λ n. replicate n Sends) (nothing (count_by is_send (scheduled load)) (ap length unasked)) in
-    ap (λ ts. scheduled load ++ (ts ++ (rounds_of load ++ Reads_all ∷ []))) none
-    ∙ (ap (λ ts. scheduled load ++ (ts ++ Reads_all ∷ [])) all
+    ap (λ ts. scheduled load ++ (sends_left load ++ (ts ++ Reads_all ∷ []))) all
+    ∙ (sym
+    (append_assoc (scheduled load) (sends_left load)
+    (flat_map (round_of load) (count_up rounds) ++ Reads_all ∷ []))
     ∙ sym
-    (append_assoc (scheduled load) (flat_map (round_of load) (count_up rounds))
-    (Reads_all ∷ []))) where
-      nothing : {a : ℕ} (b : ℕ) → a ≡ 0 → a - b ≡ 0
-      nothing b e = omega arith
+    (append_assoc (sent_first load) (flat_map (round_of load) (count_up rounds))
+    (Reads_all ∷ [])))
 
 -- in which each writer takes its whole script
 pub count_whole : (load : Load) (rounds writer : ℕ) → AreEnough load rounds

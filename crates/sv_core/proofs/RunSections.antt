@@ -118,7 +118,7 @@ row_call load writer step rest asked groups turns commands =
     }
 
 -- the row of a step turn and its command
-row_of : (load : Load) (step : ℕ) (t : StepTurn) (asked : List Asked) →
+pub row_of : (load : Load) (step : ℕ) (t : StepTurn) (asked : List Asked) →
     (t.command ≡ false → asked ≡ []) → (t.command ≡ true → (c : Asked) × (asked ≡ c ∷ []))
     → IsRow load
     (Call t.writer step ∷

@@ -2,10 +2,11 @@
 use Rattle.std.proofs.Common.{◌≡◌, ℕ, ◌+◌, ◌-◌, ◌<◌, ◌≤◌, true, false, cond, List, [], ◌∷◌}
 use Rattle.std.proofs.Common.{◌++◌, reverse, filter, All, refl, sym, ap, ◌∙◌, subst, arith}
 use Rattle.std.proofs.Common.{append_assoc, append-nil}
-use Rattle.std.specs.Prelude.{count_by}
+use Rattle.std.specs.Prelude.{count_by, nat_lt, Option}
 use Rattle.std.proofs.lemmas.List.{reverse-append}
 use Rattle.std.proofs.lemmas.List.Elements.{All-nil, All-cons, All-head, All-tail}
-use Rattle.std.proofs.lemmas.Bool.{or_parts, true≢false}
+use Rattle.std.proofs.lemmas.Bool.{true≢false}
+use Rattle.sv_workload.specs.declared.load.Command.{Command as Asked}
 use Rattle.sv_workload.specs.Load.{Load}
 use Rattle.sv_journal.specs.declared.journal.Origin.{Origin}
 use Rattle.sv_journal.specs.declared.journal.Origin.TheVariants.{Call, Sync, Reply, Overflow}
@@ -15,19 +16,22 @@ use Rattle.sv_journal.specs.Items.{latest_first, is_call, is_command, is_overflo
 use Rattle.sv_journal.specs.Items.{stored_before}
 use Rattle.sv_journal.specs.Legal.{IsLegal, EachItem, AreFirstCommands, is_head, origins_of}
 use Rattle.sv_journal.proofs.Shared.{each-push, latest_first-push}
-use Rattle.sv_core.specs.Order.{Turn, Takes_step, is_step, is_send}
+use Rattle.sv_journal.specs.Section.{command_head}
+use Rattle.sv_core.specs.Order.{Turn, Takes_step, Reads, Reads_all, Sends, is_step, is_send}
 use Rattle.sv_core.specs.Turns.{step_turns}
 use Rattle.sv_core.specs.Simulated.{IsInOrder, IsTakenItem, IsTaken, before_number, before_section}
 use Rattle.sv_core.specs.Simulated.{before_step, stored_by, taken_in, ordered_turns, overflow_freed}
-use Rattle.sv_core.proofs.Counts.{lt_false, count-cons, count-not, before_number-all}
+use Rattle.sv_core.proofs.Counts.{count-cons, count-not, before_number-all}
 use Rattle.sv_core.proofs.Counts.{before_number-more, before_number-le, calls_in, calls-cons}
-use Rattle.sv_core.proofs.JournalParts.{unmoved, after-push, IsAnswer}
+use Rattle.sv_core.proofs.JournalParts.{unmoved, after-push}
 use Rattle.sv_core.proofs.Sections.{before_number-append}
 use Rattle.sv_core.proofs.TurnCounts.{count-reverse, count-append}
 use Rattle.sv_core.proofs.OneJournal.{same_taken, taken_is}
 use Rattle.sv_core.proofs.SectionParts.{HasParts, parts_of, turn_of, calls_in-front, before_next}
+use Rattle.sv_core.proofs.SectionParts.{IsLater, before_this, before_section-same}
 use Rattle.sv_core.proofs.SectionParts.{stored_by-same}
-use Rattle.sv_core.proofs.StepCounts.{calls-steps, first_none, unsent-turns, called_at}
+use Rattle.sv_core.proofs.Commands.{is_found}
+use Rattle.sv_core.proofs.StepCounts.{calls-steps, called_at}
 
 -- WHAT THE HOST TOOK
 
@@ -98,14 +102,14 @@ each_same load turns more_turns items after later (i ∷ earlier) legal commands
 
 -- a turn that is no step keeps the order
 pub idle_more : (load : Load) (turns : List Turn) (items : List Item) (t : Turn)
-    → load.commands ≡ [] → IsLegal load items → is_step t ≡ false
+    → AreFirstCommands load items → IsLegal load items → is_step t ≡ false
     → ordered_turns load items (t ∷ reverse turns) ≡ ordered_turns load items (reverse turns)
     → IsInOrder load turns items → IsInOrder load (turns ++ t ∷ []) items
-idle_more load turns items t unasked legal idle same order = record {
+idle_more load turns items t commands legal idle same order = record {
   steps = order.steps ∙ (sym same ∙ sym (ap (ordered_turns load items) (turn_more turns t)));
   freed =
       each_same load turns (turns ++ t ∷ []) items items [] (latest_first items) legal
-      (first_none load items unasked legal)
+      commands
       (λ number below.
       ap (taken_in load items)
       (before_taken turns t number
@@ -131,29 +135,28 @@ all_parts P (x ∷ xs) ys all =
     let rest = all_parts P xs ys (All-tail P x (xs ++ ys) all) in
     (All-cons P x xs (All-head P x (xs ++ ys) all) rest.0, rest.1)
 
--- answers and overflows after items that end in a section's call
+-- overflows, a call and what follows it
 module _ (P : List Item → Item → Type 0) (freed number : ℕ)
     (new : (earlier : List Item) (i : Item) → i.freed ≡ freed
     → (is_overflow i.origin ≡ false → calls_in (i ∷ earlier) ≡ number)
     → overflow_freed earlier freed ≡ freed → P earlier i) where
-  -- the answers of a section, one after another
-  answers_more : (items rest : List Item) → EachItem P (latest_first items)
+  -- what follows the call of a section, one after another
+  later_more : (items rest : List Item) → EachItem P (latest_first items)
       → calls_in (latest_first items) ≡ number → overflow_freed (latest_first items) freed ≡ freed
-      → All (λ i. i.freed ≡ freed) rest → All IsAnswer rest
+      → All (λ i. i.freed ≡ freed) rest → All IsLater rest
       → EachItem P (latest_first (items ++ rest))
-  answers_more items [] each calls behind all answers =
+  later_more items [] each calls behind all later =
       subst (λ is. EachItem P (latest_first is)) (sym (append-nil items)) each
-  answers_more items (i ∷ rest) each calls behind all answers =
+  later_more items (i ∷ rest) each calls behind all later =
       let here : i.freed ≡ freed = All-head (λ (j : Item). j.freed ≡ freed) i rest all in
-      let other = or_parts (is_call i.origin) (is_command i.origin)
-      (All-head IsAnswer i rest answers) in
       let same : calls_in (i ∷ latest_first items) ≡ number =
-      count-not (λ (j : Item). is_call j.origin) i (latest_first items) other.0 ∙ calls in
+      count-not (λ (j : Item). is_call j.origin) i (latest_first items)
+      (All-head IsLater i rest later) ∙ calls in
       subst (λ is. EachItem P (latest_first is)) (append_assoc items (i ∷ []) rest)
-      (answers_more (items ++ i ∷ []) rest
+      (later_more (items ++ i ∷ []) rest
       (each-push P items i each (new (latest_first items) i here (λ e. same) behind))
       (ap calls_in (latest_first-push items i) ∙ same) (after-push items i freed here)
-      (All-tail (λ (j : Item). j.freed ≡ freed) i rest all) (All-tail IsAnswer i rest answers))
+      (All-tail (λ (j : Item). j.freed ≡ freed) i rest all) (All-tail IsLater i rest later))
 
   -- the overflow that may stand before its call
   front_more : (items front : List Item) → EachItem P (latest_first items)
@@ -201,11 +204,11 @@ module _ (P : List Item → Item → Type 0) (freed number : ℕ)
       subst (λ is. EachItem P (latest_first (items ++ is))) (sym p.parts)
       (subst (λ is. EachItem P (latest_first is))
       (append_assoc front (p.call ∷ []) p.rest ∙ append_assoc items p.front (p.call ∷ p.rest))
-      (answers_more (front ++ p.call ∷ []) p.rest
+      (later_more (front ++ p.call ∷ []) p.rest
       (each-push P front p.call done.0
       (new (latest_first front) p.call here (λ e. count) done.1))
       (ap calls_in (latest_first-push front p.call) ∙ count) (after-push front p.call freed here)
-      (All-tail (λ (j : Item). j.freed ≡ freed) p.call p.rest second) p.answers))
+      (All-tail (λ (j : Item). j.freed ≡ freed) p.call p.rest second) p.later))
 
 -- the host took the same before a step that was taken
 pub taken-same : (load : Load) (items more : List Item) (before : List Turn)
@@ -216,16 +219,50 @@ taken-same load items more before p old few =
     same_taken load (items ++ more) items before
     (λ number h. stored_by-same load items more number old p (omega (arith, h, few)))
 
--- a section of a writer, whose items have the freed that the host took before
+-- the turns of the sections so far do not change by a section more
+turns-same : (load : Load) (items more : List Item) (turns : List Turn) → IsLegal load items
+    → HasParts items more → count_by is_step turns ≤ calls_in (latest_first items)
+    → ordered_turns load (items ++ more) turns ≡ ordered_turns load items turns
+turns-same load items more [] old p few = refl
+turns-same load items more (Takes_step writer ∷ earlier) old p few =
+    let before : count_by is_step earlier ≤ calls_in (latest_first items) =
+    omega (arith, few, count-cons is_step (Takes_step writer) earlier) in
+    ap
+    (λ ts. ts ++ record {
+      writer = writer;
+      command = nat_lt (count_by (λ i. is_command i.origin)
+          (before_section (items ++ more) (count_by is_step earlier)))
+          (count_by is_send earlier);
+    } ∷ []) (turns-same load items more earlier old p before)
+    ∙ ap
+    (λ is. ordered_turns load items earlier ++ record {
+      writer = writer;
+      command = nat_lt (count_by (λ (i : Item). is_command i.origin) is)
+          (count_by is_send earlier);
+    } ∷ []) (before_section-same load items more (count_by is_step earlier) old p before)
+turns-same load items more (Reads most ∷ earlier) old p few =
+    turns-same load items more earlier old p
+    (omega (arith, few, count-cons is_step (Reads most) earlier))
+turns-same load items more (Reads_all ∷ earlier) old p few =
+    turns-same load items more earlier old p
+    (omega (arith, few, count-cons is_step Reads_all earlier))
+turns-same load items more (Sends ∷ earlier) old p few =
+    turns-same load items more earlier old p
+    (omega (arith, few, count-cons is_step Sends earlier))
+
+-- a section of a writer, whose items have the freed that the host took before, and which found a
+-- command exactly where one was sent and not handled
 pub order_more : (load : Load) (turns : List Turn) (items more : List Item) (writer step : ℕ)
-    → load.commands ≡ [] → count_by is_send turns ≡ 0 → IsLegal load items
+    (found : Option Asked)
+    → AreFirstCommands load items → IsLegal load items
     → IsLegal load (items ++ more) → IsInOrder load turns items
-    → filter is_head (origins_of more) ≡ Call writer step ∷ []
+    → filter is_head (origins_of more) ≡ Call writer step ∷ command_head found
+    → is_found found ≡ nat_lt (count_by (λ i. is_command i.origin) items) (count_by is_send turns)
     → All (λ i. i.freed ≡ taken_in load items (reverse turns)) more
     → IsInOrder load (turns ++ Takes_step writer ∷ []) (items ++ more)
     × (taken_in load (items ++ more) (reverse (turns ++ Takes_step writer ∷ []))
     ≡ taken_in load items (reverse turns))
-order_more load turns items more writer step unasked unsent old new order heads all = (
+order_more load turns items more writer step found commands old new order heads flag all = (
   record { steps = steps; freed = freed },
   ap (taken_in load (items ++ more)) (turn_more turns (Takes_step writer)) ∙ same,
 ) where
@@ -233,7 +270,7 @@ order_more load turns items more writer step unasked unsent old new order heads 
   next = turns ++ Takes_step writer ∷ []
 
   p : HasParts items more
-  p = parts_of load items writer step old more new heads
+  p = parts_of load items writer step found old more new heads
 
   calls : calls_in (latest_first items) ≡ count_by is_step (reverse turns)
   calls = calls-steps load turns items order
@@ -241,22 +278,30 @@ order_more load turns items more writer step unasked unsent old new order heads 
   same : taken_in load (items ++ more) (reverse turns) ≡ taken_in load items (reverse turns)
   same = taken-same load items more (reverse turns) p old (omega (arith, calls))
 
-  none : count_by is_send (reverse turns) ≡ 0
-  none = count-reverse is_send turns ∙ unsent
+  told : nat_lt (count_by (λ i. is_command i.origin) items) (count_by is_send turns)
+      ≡ nat_lt
+      (count_by (λ i. is_command i.origin)
+      (before_section (items ++ more) (count_by is_step (reverse turns))))
+      (count_by is_send (reverse turns))
+  told =
+      ap (λ n. nat_lt (count_by (λ (i : Item). is_command i.origin) items) n)
+      (sym (count-reverse is_send turns))
+      ∙ ap (λ n. nat_lt n (count_by is_send (reverse turns)))
+      (sym (count-reverse (λ (i : Item). is_command i.origin) items)
+      ∙ ap (count_by (λ (i : Item). is_command i.origin))
+      (sym
+      (ap (before_section (items ++ more)) (sym calls)
+      ∙ before_this load items more old p)))
 
   steps : step_turns (items ++ more) ≡ ordered_turns load (items ++ more) (reverse next)
   steps =
-      turn_of load items writer step old more new heads
-      ∙ (ap (λ ts. ts ++ record { writer = writer; command = false } ∷ [])
-      (order.steps ∙ unsent-turns load items (items ++ more) (reverse turns) none)
+      turn_of load items writer step found old more new heads
+      ∙ (ap (λ ts. ts ++ record { writer = writer; command = is_found found } ∷ [])
+      (order.steps
+      ∙ sym (turns-same load items more (reverse turns) old p (omega (arith, calls))))
       ∙ (ap
       (λ c. ordered_turns load (items ++ more) (reverse turns)
-      ++ record { writer = writer; command = c } ∷ [])
-      (sym
-      (lt_false
-      (count_by (λ i. is_command i.origin)
-      (before_section (items ++ more) (count_by is_step (reverse turns))))
-      (count_by is_send (reverse turns)) (omega (arith, none))))
+      ++ record { writer = writer; command = c } ∷ []) (flag ∙ told)
       ∙ ap (ordered_turns load (items ++ more)) (sym (turn_more turns (Takes_step writer)))))
 
   P : List Item → Item → Type 0
@@ -265,7 +310,7 @@ order_more load turns items more writer step unasked unsent old new order heads 
   before : EachItem P (latest_first items)
   before =
       each_same load turns next items (items ++ more) [] (latest_first items) old
-      (first_none load items unasked old)
+      commands
       (λ number below.
       let below_steps : number < count_by is_step (reverse turns) =
       subst (λ n. number < n) calls below in

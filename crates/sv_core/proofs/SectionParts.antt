@@ -4,28 +4,40 @@ use Rattle.std.proofs.Common.{List, [], ◌∷◌, ◌++◌, reverse, filter, Al
 use Rattle.std.proofs.Common.{◌∙◌, subst, arith, append_assoc, append-nil}
 use Rattle.std.proofs.lemmas.List.{reverse-append}
 use Rattle.std.proofs.lemmas.List.Elements.{All-nil, All-cons}
-use Rattle.std.proofs.lemmas.Bool.{cases_order}
+use Rattle.std.proofs.lemmas.List.Concat.{flat_map-append}
+use Rattle.std.proofs.lemmas.Bool.{cases_order, or_parts, true≢false}
+use Rattle.std.specs.Prelude.{Option, Some, None}
+use Rattle.sv_workload.specs.declared.load.Command.{Command}
 use Rattle.sv_workload.specs.Load.{Load}
 use Rattle.sv_journal.specs.declared.journal.Origin.{Origin}
 use Rattle.sv_journal.specs.declared.journal.Origin.TheVariants.{Call}
 use Rattle.sv_journal.specs.declared.journal.Item.{Item}
-use Rattle.sv_journal.specs.Items.{latest_first, is_call, is_overflow}
+use Rattle.sv_journal.specs.Items.{latest_first, is_call, is_command, is_overflow}
 use Rattle.sv_journal.specs.Items.{before_overflow, stored_before}
 use Rattle.sv_journal.specs.Legal.{IsLegal, IsNextItem, EachItem, is_head, group_of, answers_of}
-use Rattle.sv_journal.specs.Legal.{origins_of}
+use Rattle.sv_journal.specs.Legal.{origins_of, command_in, commands_in}
+use Rattle.sv_journal.specs.Section.{command_head}
 use Rattle.sv_journal.proofs.Shared.{latest_first-push}
 use Rattle.sv_core.specs.Turns.{has_command, step_turns}
 use Rattle.sv_core.specs.Simulated.{before_number, before_section, stored_by}
 use Rattle.sv_core.proofs.Counts.{before_number-all, before_number-more, calls_in, calls-cons}
-use Rattle.sv_core.proofs.JournalParts.{alone, origins_of-cons, more_groups, IsAnswer, all_answers}
+use Rattle.sv_core.proofs.JournalParts.{alone, origins_of-cons, more_groups}
 use Rattle.sv_core.proofs.JournalParts.{next_is, not_two}
 use Rattle.sv_core.proofs.Sections.{before_number-append, before_section-append}
-use Rattle.sv_core.proofs.NoHeads.{plain_command, plain_turns}
+use Rattle.sv_core.proofs.NoHeads.{plain_command, plain_turns, plain_commands}
+use Rattle.sv_core.proofs.Commands.{commands_of, is_found}
+use Rattle.sv_core.proofs.Heads.{first_head}
+use Rattle.sv_core.proofs.OriginsOfTurns.{not_call}
 use Rattle.sv_core.proofs.OneJournal.{calls-before_overflow}
-use Rattle.sv_core.proofs.RunSections.{row_call, turns-append}
+use Rattle.sv_core.proofs.RunSections.{IsRow, row_of, turns-append}
 use Rattle.sv_core.proofs.Settling.{origins, told_command, told_turns, command_told, turns_told}
+use Rattle.sv_core.proofs.Settling.{told_commands}
 
--- a section's items after these: an overflow or nothing, a call, and answers
+-- an item that begins no section
+abbrev pub IsLater : Item → Type 0
+IsLater i = is_call i.origin ≡ false
+
+-- a section's items after these: an overflow or nothing, a call, and no further call
 pub record HasParts (items more : List Item) : Type 0 where
   pub front : List Item
   pub call : Item
@@ -34,24 +46,65 @@ pub record HasParts (items more : List Item) : Type 0 where
   pub overflows : All (λ i. is_overflow i.origin ≡ true) front
   pub left_out : before_overflow (latest_first (items ++ front)) ≡ latest_first items
   pub called : is_call call.origin ≡ true
-  pub answers : All IsAnswer rest
+  pub later : All IsLater rest
 
--- the call and the answers, where the call is the first item
-first_parts : (c : Item) (rest : List Item) (writer step : ℕ) (os : List Origin)
+-- no call stands among items whose heads are none
+all_later : (items : List Item) → filter is_call (filter is_head (origins_of items)) ≡ []
+    → All IsLater items
+all_later [] none = All-nil IsLater
+all_later (i ∷ items) none =
+    at (is_overflow i.origin) (is_head i.origin) (is_call i.origin) refl refl refl none
+    (all_later items) where
+      at : (b c d : Bool) → is_overflow i.origin ≡ b → is_head i.origin ≡ c
+          → is_call i.origin ≡ d
+          → filter is_call
+          (filter is_head (cond (not b) (i.origin ∷ origins_of items) (origins_of items))) ≡ []
+          → (filter is_call (filter is_head (origins_of items)) ≡ [] → All IsLater items)
+          → All IsLater (i ∷ items)
+      at true c d e f g none more =
+          All-cons IsLater i items (not_call i.origin e) (more none)
+      at false true true e f g none more =
+          let shape : i.origin ∷ filter is_call (filter is_head (origins_of items)) ≡ [] = sym
+          (ap (λ b. filter is_call (cond b (i.origin ∷ filter is_head (origins_of items))
+          (filter is_head (origins_of items)))) f
+          ∙ ap (λ b. cond b (i.origin ∷ filter is_call (filter is_head (origins_of items)))
+          (filter is_call (filter is_head (origins_of items)))) g) ∙ none in
+          cc
+      at false true false e f g none more = All-cons IsLater i items g
+          (more (sym
+          (ap (λ b. filter is_call (cond b (i.origin ∷ filter is_head (origins_of items))
+          (filter is_head (origins_of items)))) f
+          ∙ ap (λ b. cond b (i.origin ∷ filter is_call (filter is_head (origins_of items)))
+          (filter is_call (filter is_head (origins_of items)))) g) ∙ none))
+      at false false d e f g none more = All-cons IsLater i items
+          (or_parts (is_call i.origin) (is_command i.origin) f).0
+          (more (sym (ap (λ b. filter is_call (cond b (i.origin ∷ filter is_head (origins_of items))
+          (filter is_head (origins_of items)))) f) ∙ none))
+
+-- a command's head is no call
+no_call : (found : Option Command) → filter is_call (command_head found) ≡ []
+no_call None = refl
+no_call (Some command) = refl
+
+-- the call and the rest, where the call is the first item
+first_parts : (c : Item) (rest : List Item) (writer step : ℕ) (found : Option Command)
+    (os : List Origin)
     → is_overflow c.origin ≡ false → origins_of (c ∷ rest) ≡ Call writer step ∷ os
-    → filter is_head (origins_of (c ∷ rest)) ≡ Call writer step ∷ []
-    → (is_call c.origin ≡ true) × All IsAnswer rest
-first_parts c rest writer step os other group heads =
+    → filter is_head (origins_of (c ∷ rest)) ≡ Call writer step ∷ command_head found
+    → (is_call c.origin ≡ true) × All IsLater rest
+first_parts c rest writer step found os other group heads =
     let shape : origins_of (c ∷ rest) ≡ c.origin ∷ origins_of rest = origins_of-cons c rest other in
     let origin : c.origin ≡ Call writer step = heads_same c.origin (Call writer step)
     (origins_of rest) os (sym shape ∙ group) in
-    let later : c.origin ∷ filter is_head (origins_of rest) ≡ Call writer step ∷ [] =
+    let later : c.origin ∷ filter is_head (origins_of rest)
+    ≡ Call writer step ∷ command_head found =
     sym (ap (filter is_head) shape ∙ ap
     (λ b. cond b (c.origin ∷ filter is_head (origins_of rest))
     (filter is_head (origins_of rest))) (ap is_head origin)) ∙ heads in (
       ap is_call origin,
-      all_answers rest (tails_same c.origin (Call writer step) (filter is_head (origins_of rest)) []
-          later),
+      all_later rest
+          (ap (filter is_call) (tails_same c.origin (Call writer step)
+          (filter is_head (origins_of rest)) (command_head found) later) ∙ no_call found),
     )
   where
     heads_same : (a b : Origin) (os more : List Origin) → a ∷ os ≡ b ∷ more → a ≡ b
@@ -60,23 +113,30 @@ first_parts c rest writer step os other group heads =
     tails_same : (a b : Origin) (os more : List Origin) → a ∷ os ≡ b ∷ more → os ≡ more
     tails_same a b os more e = cc
 
-module _ (load : Load) (items : List Item) (writer step : ℕ) (old : IsLegal load items) where
+module _ (load : Load) (items : List Item) (writer step : ℕ) (found : Option Command)
+    (old : IsLegal load items) where
+  -- what follows the call
+  rest_of : List Origin
+  rest_of =
+      answers_of load (Call writer step) ++ flat_map (group_of load) (command_head found)
+
   -- the origins of a section's items
   group_is : (more : List Item) → IsLegal load (items ++ more)
-      → filter is_head (origins_of more) ≡ Call writer step ∷ []
-      → origins_of more ≡ Call writer step ∷ (answers_of load (Call writer step) ++ [])
+      → filter is_head (origins_of more) ≡ Call writer step ∷ command_head found
+      → origins_of more ≡ Call writer step ∷ rest_of
   group_is more new heads =
       more_groups load items more old new ∙ ap (flat_map (group_of load)) heads
 
   pub parts_of : (more : List Item) → IsLegal load (items ++ more)
-      → filter is_head (origins_of more) ≡ Call writer step ∷ [] → HasParts items more
+      → filter is_head (origins_of more) ≡ Call writer step ∷ command_head found
+      → HasParts items more
   parts_of [] new heads = cc
   parts_of (c ∷ more) new heads = at (is_overflow c.origin) refl more new heads where
     first : (more : List Item) → is_overflow c.origin ≡ false → IsLegal load (items ++ (c ∷ more))
-        → filter is_head (origins_of (c ∷ more)) ≡ Call writer step ∷ []
+        → filter is_head (origins_of (c ∷ more)) ≡ Call writer step ∷ command_head found
         → HasParts items (c ∷ more)
     first more other new heads =
-        let both = first_parts c more writer step (answers_of load (Call writer step) ++ []) other
+        let both = first_parts c more writer step found rest_of other
         (group_is (c ∷ more) new heads) heads in
         record {
           front = [];
@@ -87,14 +147,14 @@ module _ (load : Load) (items : List Item) (writer step : ℕ) (old : IsLegal lo
           left_out = ap (λ is. before_overflow (latest_first is)) (append-nil items)
               ∙ alone (latest_first items) old.ends;
           called = both.0;
-          answers = both.1;
+          later = both.1;
         }
 
     second : (more : List Item) → is_overflow c.origin ≡ true → IsLegal load (items ++ (c ∷ more))
-        → filter is_head (origins_of (c ∷ more)) ≡ Call writer step ∷ []
+        → filter is_head (origins_of (c ∷ more)) ≡ Call writer step ∷ command_head found
         → HasParts items (c ∷ more)
     second [] over new heads =
-        let none : [] ≡ Call writer step ∷ [] =
+        let none : [] ≡ Call writer step ∷ command_head found =
         sym (ap (λ b. filter is_head (cond (not b) (c.origin ∷ []) [])) over) ∙ heads in
         cc
     second (d ∷ rest) over new heads = by (is_overflow d.origin) refl where
@@ -109,7 +169,7 @@ module _ (load : Load) (items : List Item) (writer step : ℕ) (old : IsLegal lo
           (subst (λ is. EachItem (IsNextItem load) (latest_first is))
           (sym (append_assoc items (c ∷ []) (d ∷ rest))) new.each)))
       by false e =
-          let both = first_parts d rest writer step (answers_of load (Call writer step) ++ []) e
+          let both = first_parts d rest writer step found rest_of e
           (sym skip ∙ group_is (c ∷ (d ∷ rest)) new heads) (ap (filter is_head) (sym skip) ∙ heads)
           in
           record {
@@ -122,29 +182,63 @@ module _ (load : Load) (items : List Item) (writer step : ℕ) (old : IsLegal lo
             left_out = ap before_overflow (latest_first-push items c)
                 ∙ ap (λ b. cond b (latest_first items) (c ∷ latest_first items)) over;
             called = both.0;
-            answers = both.1;
+            later = both.1;
           }
 
     at : (b : Bool) → is_overflow c.origin ≡ b → (more : List Item)
         → IsLegal load (items ++ (c ∷ more))
-        → filter is_head (origins_of (c ∷ more)) ≡ Call writer step ∷ []
+        → filter is_head (origins_of (c ∷ more)) ≡ Call writer step ∷ command_head found
         → HasParts items (c ∷ more)
     at true e more new heads = second more e new heads
     at false e more new heads = first more e new heads
 
+  -- what the origins of a section tell
+  row : IsRow load (Call writer step ∷ rest_of)
+      (record { writer = writer; command = is_found found }) (commands_of found)
+  row =
+      subst
+      (λ os. IsRow load
+      (Call writer step ∷ (answers_of load (Call writer step) ++ flat_map (group_of load) os))
+      (record { writer = writer; command = is_found found }) (commands_of found))
+      (sym (heads found))
+      (row_of load step (record { writer = writer; command = is_found found })
+      (commands_of found) (none found) (some found)) where
+        heads : (o : Option Command) → command_head o ≡ first_head (commands_of o)
+        heads None = refl
+        heads (Some c) = refl
+
+        none : (o : Option Command) → is_found o ≡ false → commands_of o ≡ []
+        none None e = refl
+        none (Some c) e = absurd (true≢false e)
+
+        some : (o : Option Command) → is_found o ≡ true
+            → (c : Command) × (commands_of o ≡ c ∷ [])
+        some None e = absurd (true≢false (sym e))
+        some (Some c) e = (c, refl)
+
   -- the turn of a section
   pub turn_of : (more : List Item) → IsLegal load (items ++ more)
-      → filter is_head (origins_of more) ≡ Call writer step ∷ []
+      → filter is_head (origins_of more) ≡ Call writer step ∷ command_head found
       → step_turns (items ++ more)
-      ≡ step_turns items ++ record { writer = writer; command = false } ∷ []
+      ≡ step_turns items ++ record { writer = writer; command = is_found found } ∷ []
   turn_of more new heads =
-      let row = row_call load writer step [] [] refl refl refl in
       let group = group_is more new heads in
       let begins : has_command more ≡ false =
       command_told more ∙ (plain_command (origins more) ∙ (ap told_command group ∙ row.begins)) in
-      let turned : step_turns more ≡ record { writer = writer; command = false } ∷ [] =
+      let turned : step_turns more ≡ record { writer = writer; command = is_found found } ∷ [] =
       turns_told more ∙ (plain_turns (origins more) ∙ (ap told_turns group ∙ row.told)) in
       turns-append items more begins ∙ ap (λ ts. step_turns items ++ ts) turned
+
+  -- and its command
+  pub commands_more : (more : List Item) → IsLegal load (items ++ more)
+      → filter is_head (origins_of more) ≡ Call writer step ∷ command_head found
+      → commands_in (items ++ more) ≡ commands_in items ++ commands_of found
+  commands_more more new heads =
+      flat_map-append (λ (i : Item). command_in i.origin) items more
+      ∙ ap (λ cs. commands_in items ++ cs)
+      (told_commands more
+      ∙ (plain_commands (origins more)
+      ∙ (ap (flat_map command_in) (group_is more new heads) ∙ row.commands)))
 
 -- WHAT STANDS BEFORE THE SECTION
 
@@ -166,7 +260,7 @@ latest_parts items more p =
     ∙ append_assoc (reverse p.rest) (p.call ∷ []) (latest_first (items ++ p.front)))))
 
 -- before the section stand the items without it
-pub before_this : (load : Load) (items more : List Item) → IsLegal load items → HasParts items more
+pub pub before_this : (load : Load) (items more : List Item) → IsLegal load items → HasParts items more
     → before_section (items ++ more) (calls_in (latest_first items)) ≡ latest_first items
 before_this load items more old p =
     let n : ℕ = calls_in (latest_first items) in
@@ -192,13 +286,12 @@ before_next load items old =
     (latest_first items) (omega arith))
     ∙ alone (latest_first items) old.ends
 
--- the bytes of the sections so far do not change by a section more
-pub stored_by-same : (load : Load) (items more : List Item) (number : ℕ) → IsLegal load items
+-- what stood before a call does not change by a section more
+pub before_section-same : (load : Load) (items more : List Item) (number : ℕ) → IsLegal load items
     → HasParts items more → number ≤ calls_in (latest_first items)
-    → stored_by load (items ++ more) number ≡ stored_by load items number
-stored_by-same load items more number old p few =
-    ap (stored_before load)
-    (at (cases_order number (calls_in (latest_first items))) few) where
+    → before_section (items ++ more) number ≡ before_section items number
+before_section-same load items more number old p few =
+    at (cases_order number (calls_in (latest_first items))) few where
       at : (number ≡ calls_in (latest_first items))
           ⊎ ((number < calls_in (latest_first items)) ⊎ (calls_in (latest_first items) < number))
           → number ≤ calls_in (latest_first items)
@@ -209,3 +302,10 @@ stored_by-same load items more number old p few =
           ∙ sym (ap (before_section items) same ∙ before_next load items old))
       at (inr (inl below)) few = before_section-append items more number below
       at (inr (inr above)) few = absurd (omega (arith, few, above))
+
+-- nor do the bytes of the sections so far
+pub stored_by-same : (load : Load) (items more : List Item) (number : ℕ) → IsLegal load items
+    → HasParts items more → number ≤ calls_in (latest_first items)
+    → stored_by load (items ++ more) number ≡ stored_by load items number
+stored_by-same load items more number old p few =
+    ap (stored_before load) (before_section-same load items more number old p few)

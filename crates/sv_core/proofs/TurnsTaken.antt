@@ -2,23 +2,31 @@
 use Rattle.std.proofs.Common.{◌≡◌, ℕ, suc, ◌+◌, ◌<◌, ◌≤◌, true, false, ◌⊎◌, inl, inr, Some, None}
 use Rattle.std.proofs.Common.{List, [], ◌∷◌, ◌++◌, length, take, drop, refl, sym, ap, ◌∙◌}
 use Rattle.std.proofs.Common.{subst, arith, append-nil}
-use Rattle.std.specs.Prelude.{slice_get, slice_index_or, count_by}
+use Rattle.std.specs.Prelude.{slice_get, slice_index_or, count_by, Bool, Option, IfSome}
+use Rattle.std.proofs.Common.{cond}
 use Rattle.std.proofs.lemmas.List.{take-append-drop, length-append, length-take-le}
 use Rattle.std.proofs.lemmas.List.{get_or_past}
 use Rattle.std.proofs.lemmas.Option.{slice_get-get_or}
-use Rattle.std.proofs.lemmas.Bool.{true≢false}
+use Rattle.sv_ring.specs.Down.{IsFront}
 use Rattle.sv_ring.specs.Ring.{Way, Plan}
+use Rattle.sv_workload.specs.declared.load.Command.{Command}
 use Rattle.sv_workload.specs.Load.{Load, script_of}
 use Rattle.sv_journal.specs.declared.journal.Item.{Item}
-use Rattle.sv_journal.specs.Items.{latest_first, is_call_of}
-use Rattle.sv_journal.specs.Legal.{IsLegal}
+use Rattle.sv_journal.specs.Items.{latest_first, is_call_of, is_command}
+use Rattle.sv_journal.specs.Legal.{IsLegal, commands_in}
+use Rattle.sv_recorder.specs.Asked.{IsAsked as Asks}
+use Rattle.sv_recorder.specs.Commands.{IsWaiting}
 use Rattle.sv_recorder.specs.Freed.{AreFreed}
+use Rattle.sv_recorder.specs.Recording.{Recording}
 use Rattle.sv_journal.specs.Stream.{stream_of}
 use Rattle.sv_journal.specs.Section.{IsSection}
 use Rattle.sv_core.specs.Turns.{StepTurn, Turns, IsReplayed, written_freed, frees_before}
 use Rattle.sv_core.specs.BadTurns.{IsReplayedTo, FallsShort, IsFault, No_step, No_command, No_frees}
 use Rattle.sv_core.specs.BadTurns.{Left_over, Faulty, IsBadTurns}
+use Rattle.sv_core.specs.Played.{HasSent}
 use Rattle.sv_core.specs.Used.{turns_by, IsUsing, IsUsingOthers}
+use Rattle.sv_core.proofs.Commands.{commands_of, HasTaken, sent-taken}
+use Rattle.sv_core.proofs.SectionParts.{commands_more}
 use Rattle.sv_core.proofs.BadTurns.{falls, replayed_from}
 use Rattle.sv_core.proofs.ByPlan.{GoesOn}
 use Rattle.sv_core.proofs.RunSections.{Extends, turn_taken}
@@ -57,24 +65,29 @@ bad-through load turns at items way freed t h here through =
 pub bad-command :
     (load : Load) (turns : Turns) (at : ℕ) (items : List Item) (way : Way) (freed : ℕ)
     (t : StepTurn) → Holds load turns at items way freed → slice_get turns.steps at ≡ Some t
-    → load.commands ≡ [] → t.command ≡ true → IsBadTurns load turns at
+    → length load.commands ≤ count_by (λ i. is_command i.origin) items → t.command ≡ true
+    → IsBadTurns load turns at
 bad-command load turns at items way freed t h here none command =
-    bad-turn load turns at items way freed t h here
-    (No_command command (least (ap length none))) where
-      least : {a b : ℕ} → a ≡ 0 → a ≤ b
-      least e = omega arith
+    bad-turn load turns at items way freed t h here (No_command command none)
+
+-- a command was found exactly where the turn has one, the next of the workload
+pub record IsFoundFor (load : Load) (items : List Item) (t : StepTurn) (found : Option Command)
+    : Type 0 where
+  pub none : t.command ≡ false → found ≡ None
+  pub some : t.command ≡ true → (c : Command) × (found ≡ Some c)
+      × (slice_get load.commands (length (commands_in items)) ≡ Some c)
 
 -- a section
 pub turn :
     (load : Load) (turns : Turns) (at : ℕ) (items after : List Item) (way way_now : Way)
-    (freed freed_now : ℕ) (t : StepTurn) → Holds load turns at items way freed →
-    slice_get turns.steps at ≡ Some t
-    → t.command ≡ false → IsLegal load after → (s : IsSection items after t.writer None) →
+    (freed freed_now : ℕ) (t : StepTurn) (found : Option Command) →
+    Holds load turns at items way freed → slice_get turns.steps at ≡ Some t
+    → IsFoundFor load items t found → IsLegal load after → (s : IsSection items after t.writer found) →
     AreFreed load (latest_first items) s.more way freed way_now freed_now →
     Extends load turns at after way_now freed_now
-turn load turns at items after way way_now freed freed_now t h here none legal s moved =
-    turn_taken load turns at items after h.left t None way_now freed_now h.to here (λ e. refl)
-    (λ e. absurd (true≢false (sym e ∙ none))) legal s
+turn load turns at items after way way_now freed freed_now t found h here asks legal s moved =
+    turn_taken load turns at items after h.left t found way_now freed_now h.to here asks.none
+    asks.some legal s
     (subst
     (λ w.
     AreFreed load (latest_first items) s.more w (written_freed (latest_first items)) way_now
@@ -220,7 +233,8 @@ pub fails-command :
     (load : Load) (steps : List StepTurn) (frees : List ℕ) (at : ℕ) (d : StepTurn) (load_now : Load)
     (items : List Item) (sent : List ℕ) (way : Way) (freed : ℕ) →
     IsTaking load steps frees at load_now items sent way freed → at < length steps
-    → load.commands ≡ [] → (slice_index_or steps at d).command ≡ true →
+    → length load.commands ≤ count_by (λ i. is_command i.origin) items
+    → (slice_index_or steps at d).command ≡ true →
     IsBadTurns load (turns_by steps frees) at
 fails-command load steps frees at d load_now items sent way freed t below none command =
     bad-command load (turns_by steps frees) at items way freed (slice_index_or steps at d) t.holds
@@ -241,19 +255,75 @@ fails-through load steps frees at d load_now items sent way freed t below throug
 -- a section that was taken
 pub taken :
     (load : Load) (steps : List StepTurn) (frees : List ℕ) (at : ℕ) (d : StepTurn) (load_now : Load)
-    (items after : List Item) (sent : List ℕ) (way way_now : Way) (freed freed_now : ℕ) →
+    (items after : List Item) (sent : List ℕ) (way way_now : Way) (freed freed_now : ℕ)
+    (found : Option Command) →
     IsTaking load steps frees at load_now items sent way freed
-    → at < length steps → (slice_index_or steps at d).command ≡ false → IsLegal load_now after →
-    (s : IsSection items after (slice_index_or steps at d).writer None) →
+    → at < length steps → IsFoundFor load items (slice_index_or steps at d) found
+    → IsLegal load_now after → (s : IsSection items after (slice_index_or steps at d).writer found) →
     AreFreed load_now (latest_first items) s.more way freed way_now freed_now
     → Extends load (turns_by steps frees) at after way_now freed_now
-taken load steps frees at d load_now items after sent way way_now freed freed_now t below none legal
-    s moved =
+taken load steps frees at d load_now items after sent way way_now freed freed_now found t below asks
+    legal s moved =
     turn load (turns_by steps frees) at items after way way_now freed freed_now
-    (slice_index_or steps at d) t.holds (here steps at d below) none
+    (slice_index_or steps at d) found t.holds (here steps at d below) asks
     (subst (λ l. IsLegal l after) t.load_is legal) s
     (subst (λ l. AreFreed l (latest_first items) s.more way freed way_now freed_now) t.load_is
     moved)
+
+-- a recorder that took so many turns, and whose host sent as many commands as they have
+pub record HasTurned (load : Load) (steps : List StepTurn) (frees : List ℕ) (at : ℕ)
+    (recorder : Recording) (sent : ℕ) : Type 0 where
+  pub taking : IsTaking load steps frees at recorder.load recorder.items recorder.sent recorder.way
+      recorder.freed
+  pub host : HasSent load recorder sent
+  pub through : sent ≡ count_by (λ i. is_command i.origin) recorder.items
+
+-- and which sent the next one where the next turn has one
+pub record IsToTurn (load : Load) (steps : List StepTurn) (frees : List ℕ) (at : ℕ)
+    (recorder : Recording) (sent : ℕ) (command : Bool) : Type 0 where
+  pub taking : IsTaking load steps frees at recorder.load recorder.items recorder.sent recorder.way
+      recorder.freed
+  pub host : HasSent load recorder sent
+  pub due : sent ≡ count_by (λ i. is_command i.origin) recorder.items + cond command 1 0
+
+pub to-turn : (load : Load) (steps : List StepTurn) (frees : List ℕ) (at : ℕ)
+    (before after : Recording) (sent now : ℕ) (command : Bool) (asked : Option (List ℕ))
+    → HasTurned load steps frees at before sent
+    → after ≡ record before { asked = asked } → HasSent load after now
+    → now ≡ sent + cond command 1 0 → IsToTurn load steps frees at after now command
+to-turn load steps frees at before after sent now command asked h same host more = record {
+  taking = subst (λ (r : Recording). IsTaking load steps frees at r.load r.items r.sent r.way
+      r.freed) (sym same) h.taking;
+  host = host;
+  due = subst (λ (r : Recording). now ≡ count_by (λ i. is_command i.origin) r.items
+      + cond command 1 0) (sym same)
+      (more ∙ ap (λ n. n + cond command 1 0) h.through);
+}
+
+-- what the section of the turn found
+pub found-for : (load : Load) (steps : List StepTurn) (frees : List ℕ) (at : ℕ)
+    (before after : Recording) (sent : ℕ) (t : StepTurn) (found : Option Command)
+    → IsToTurn load steps frees at before sent t.command
+    → after.load ≡ before.load → IsLegal before.load after.items
+    → IsSection before.items after.items t.writer found
+    → after.asked ≡ before.asked → IfSome after.asked (IsFront after.answered)
+    → IsWaiting after.kept → Asks before after found
+    → HasTaken load before after sent found t.command
+found-for load steps frees at before after sent t found h same legal s asked_same front waits asks =
+    sent-taken load before after sent found t.command h.host h.taking.load_is h.due gained asked_same
+    front waits asks where
+      old : IsLegal load before.items
+      old = h.taking.holds.to.run.legal
+
+      new : IsLegal load (before.items ++ s.more)
+      new = subst (IsLegal load) s.longer
+          (subst (λ (l : Load). IsLegal l after.items) h.taking.load_is legal)
+
+      gained : commands_in after.items ≡ commands_in before.items ++ commands_of found
+      gained =
+          ap (λ (is : List Item). commands_in is) s.longer
+          ∙ commands_more load before.items t.writer
+          (count_by (λ i. is_call_of t.writer i.origin) before.items) found old s.more new s.heads
 
 pub fails-frees :
     (load : Load) (steps : List StepTurn) (frees : List ℕ) (at : ℕ) (d : StepTurn) (load_now : Load)

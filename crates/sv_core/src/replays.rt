@@ -1,22 +1,23 @@
 //! Replays: the steps of turns again, over a ring that frees by their numbers.
 ghost use Rattle.std.specs.Prelude.{◌≡◌, ◌≤◌, ℕ, true, [], IfOk, IsErrOf, MatchOption, length};
-ghost use Rattle.std.specs.Prelude.{take};
+ghost use Rattle.std.specs.Prelude.{take, ◌+◌, IfNone, IfSome, if◌then◌else◌};
 ghost use Rattle.sv_ring.specs.Ring.{Plan};
-ghost use Rattle.sv_recorder.specs.Plain.{IsPlain};
 ghost use Rattle.sv_journal.specs.Stream.{stream_of};
 ghost use Rattle.sv_core.specs.BadTurns.{IsBadTurns};
+ghost use Rattle.sv_core.specs.Played.{HasSent};
 ghost use Rattle.sv_core.specs.Turns.{IsReplayed};
 ghost use Rattle.sv_core.specs.Turned.{kept};
 ghost use Rattle.sv_core.specs.Used.{IsCounted, IsUsingOthers};
 
 use crate::plan_ring::PlanRing;
-use crate::simulation::Simulated;
+use crate::simulation::{Simulated, send_next};
 use crate::turns::{Turns, is_lost, is_written};
 use std::alloc::Global;
+use sv_desc::{Describe, Describes, micros_of, put_line};
 use sv_journal::Item;
-use sv_prim::NoMemory;
+use sv_prim::{Buf, NoMemory};
 use sv_recorder::Recorder;
-use sv_ring::UpWriter;
+use sv_ring::{PlainDown, UpWriter};
 use sv_workload::Workload;
 use thiserror::Error;
 
@@ -67,18 +68,41 @@ fn used_from(items: &[Item], from: usize, frees: &[u32], before: Used) -> Option
     Some(used)
 }
 
-/// Takes the turns, over a ring that frees by the plan of their frees. Says where they fail, if
-/// they do.
-fn take_turns<U: UpWriter + Drop>(
+/// Sends the next command where the turn has one. Gives how many are sent by then; None where no
+/// command is left.
+fn send_for<U: UpWriter + Drop, P: Describes + Drop>(
     load: &Workload,
-    recorder: &mut Recorder<'_, U>,
+    recorder: &mut Recorder<'_, U, PlainDown, P>,
+    asks: bool,
+    sent: usize,
+) -> Option<usize>
+    requires sent { HasSent load.now recorder.old sent }
+    ensures same { recorder.new ≡ record recorder.old { asked = recorder.new.asked } }
+    ensures none { IfNone result ((asks ≡ true) × (length load.now.commands ≤ sent)) }
+    ensures sent { IfSome result (λ now. HasSent load.now recorder.new now
+        × (now ≡ sent + (if asks then 1 else 0))) }
+{
+    if !asks {
+        return Some(sent);
+    }
+    if sent == load.commands().len() {
+        return None;
+    }
+    Some(send_next(load, recorder, sent))
+}
+
+/// Takes the turns, over a ring that frees by the plan of their frees. The next command is sent
+/// directly before the turn that finds it. Says where they fail, if they do.
+fn take_turns<U: UpWriter + Drop, P: Describes + Drop>(
+    load: &Workload,
+    recorder: &mut Recorder<'_, U, PlainDown, P>,
     turns: &Turns,
 ) -> Option<u64>
-    requires plain { IsPlain load.now }
     requires load { recorder.old.load ≡ load.now }
     requires items { recorder.old.items ≡ [] }
     requires freed { recorder.old.freed ≡ 0 }
     requires way { recorder.old.way ≡ Plan turns.now.frees.items }
+    requires sent { HasSent load.now recorder.old 0 }
     ensures told { MatchOption result (IsReplayed load.now (kept turns.now) recorder.new.items)
         (IsBadTurns load.now (kept turns.now)) }
     ensures stream { recorder.new.sent ≡ stream_of load.now recorder.new.items }
@@ -86,6 +110,7 @@ fn take_turns<U: UpWriter + Drop>(
     recorder.keeps();
     let steps = turns.steps.as_slice();
     let frees = turns.frees.as_slice();
+    let mut sent = 0;
     let mut used = Used {
         count: 0,
         freed: 0,
@@ -93,11 +118,12 @@ fn take_turns<U: UpWriter + Drop>(
     };
     for at in 0..steps.len() {
         let turn = steps[at];
-        if turn.command {
-            return Some(at as u64);
-        }
         if turn.writer >= load.writers() {
             return Some(at as u64);
+        }
+        match send_for(load, recorder, turn.command, sent) {
+            None => return Some(at as u64),
+            Some(now) => sent = now,
         }
         let from = recorder.journal().items().len();
         match recorder.section(turn.writer) {
@@ -117,17 +143,16 @@ fn take_turns<U: UpWriter + Drop>(
     }
 }
 
-/// Runs a workload again, turn by turn: each turn is the next step of its writer, and before each
-/// write the next number of bytes is freed. Turns that [`turns_of`] read from a legal journal give
-/// that journal again, but for what unwritten items found freed, and its bytes ([`replay_same`]).
-///
-/// BadTurns comes exactly where no such run exists, with the place of the first turn that cannot be
-/// taken. Memory is taken once for the journal and once for the bytes.
-///
-/// [`turns_of`]: crate::turns_of
-/// [`replay_same`]: crate::replay_same
-pub fn replay(alloc: Global, load: &Workload, turns: &Turns) -> Result<Simulated, ReplayFault>
-    requires plain { IsPlain load.now }
+/// A replay with these callbacks, which are for the workload's lines and clock.
+fn replay_with<P: Describes + Drop>(
+    alloc: Global,
+    load: &Workload,
+    turns: &Turns,
+    desc: P,
+) -> Result<Simulated, ReplayFault>
+    requires desc { P.kept desc }
+    requires lines { P.lines desc ≡ load.now.lines }
+    requires clock { P.clock desc ≡ load.now.clock }
     ensures replayed { IfOk result (λ run. IsReplayed load.now (kept turns.now) run.journal.items) }
     ensures bytes { IfOk result (λ run. run.bytes.items ≡ stream_of load.now run.journal.items) }
     ensures bad { (at : ℕ) → IsErrOf result (ReplayFault.BadTurns at) →
@@ -137,7 +162,8 @@ pub fn replay(alloc: Global, load: &Workload, turns: &Turns) -> Result<Simulated
     let Ok(up) = PlanRing::new(alloc, load.ring(), load.need().bytes, frees) else {
         return Err(ReplayFault::NoMemory);
     };
-    let Ok(mut recorder) = Recorder::new(alloc, load, up) else {
+    let _ = load.commands();
+    let Ok(mut recorder) = Recorder::new(alloc, load, up, PlainDown::new(), desc) else {
         return Err(ReplayFault::NoMemory);
     };
     match take_turns(load, &mut recorder, turns) {
@@ -150,4 +176,30 @@ pub fn replay(alloc: Global, load: &Workload, turns: &Turns) -> Result<Simulated
             })
         }
     }
+}
+
+/// Runs a workload again, turn by turn: each turn is the next step of its writer, and the host's next
+/// command where the turn has one, and before each write the next number of bytes is freed. Turns that [`turns_of`] read from a legal journal give
+/// that journal again, but for what unwritten items found freed, and its bytes ([`replay_same`]).
+///
+/// BadTurns comes exactly where no such run exists, with the place of the first turn that cannot be
+/// taken. Memory is taken once for the journal and once for the bytes.
+///
+/// [`turns_of`]: crate::turns_of
+/// [`replay_same`]: crate::replay_same
+pub fn replay(alloc: Global, load: &Workload, turns: &Turns) -> Result<Simulated, ReplayFault>
+    ensures replayed { IfOk result (λ run. IsReplayed load.now (kept turns.now) run.journal.items) }
+    ensures bytes { IfOk result (λ run. run.bytes.items ≡ stream_of load.now run.journal.items) }
+    ensures bad { (at : ℕ) → IsErrOf result (ReplayFault.BadTurns at) →
+        IsBadTurns load.now (kept turns.now) at }
+{
+    let lines = load.lines();
+    let clock = load.clock();
+    let desc = Describe::new(
+        lines,
+        clock,
+        |index: u32, out: &mut Buf| put_line(lines, index, out),
+        |moment: u64| micros_of(clock, moment),
+    );
+    replay_with(alloc, load, turns, desc)
 }

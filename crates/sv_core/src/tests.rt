@@ -1,19 +1,19 @@
 ghost use Rattle.std.specs.Prelude.{◌≤◌, IfOk};
-ghost use Rattle.sv_recorder.specs.Plain.{IsPlain};
 
 use super::*;
 use std::alloc::Global;
 use std::process::Abort;
 use std::test::*;
+use sv_journal::{Item, Origin, Outcome};
+
 use sv_workload::{Workload, parse};
 
 /// A start at tick 0 and thirteen marks of the number 5, one tick apart, over a ring of 64 bytes.
 const MARKS: &[u8] = b"ring 64\nwriter\n0 start\n1 mark 5\n1 mark 5\n1 mark 5\n1 mark 5\n1 mark 5\n\
 1 mark 5\n1 mark 5\n1 mark 5\n1 mark 5\n1 mark 5\n1 mark 5\n1 mark 5\n1 mark 5\n";
 
-/// The workload that the text says, which is plain.
-fn plain(alloc: Global, text: &[u8]) -> Result<Workload, Fail>
-    ensures plain { IfOk result (λ load. IsPlain load) }
+/// The workload that the text says.
+fn load_of(alloc: Global, text: &[u8]) -> Result<Workload, Fail>
     ensures ring { IfOk result (λ load. load.ring ≤ 65536) }
 {
     if text.len() >= 1 << 32 {
@@ -47,7 +47,7 @@ fn turns(alloc: Global, free: u32) -> Result<Turns, Fail> {
 #[test]
 fn replay_with_lost_packets(rt: HostRuntime) -> Result<(), Fail> {
     let alloc = rt.alloc();
-    let load = plain(alloc, MARKS)?;
+    let load = load_of(alloc, MARKS)?;
     match replay(alloc, &load, &turns(alloc, 20)?) {
         Ok(run) => {
             assert_eq!(rt; run.journal.items().len(), 22);
@@ -71,7 +71,7 @@ fn replay_with_lost_packets(rt: HostRuntime) -> Result<(), Fail> {
 #[test]
 fn bad_turns_at_their_place(rt: HostRuntime) -> Result<(), Fail> {
     let alloc = rt.alloc();
-    let load = plain(alloc, MARKS)?;
+    let load = load_of(alloc, MARKS)?;
     match replay(alloc, &load, &turns(alloc, 100)?) {
         Ok(_) => assert!(rt; false, "100 bytes freed"),
         Err(fault) => assert_eq!(rt; fault, ReplayFault::BadTurns { at: 13 }),
@@ -88,6 +88,15 @@ fn bad_turns_at_their_place(rt: HostRuntime) -> Result<(), Fail> {
     Ok(())
 }
 
+/// The simulation of the workload that the text says.
+fn simulated(alloc: Global, text: &[u8]) -> Result<Simulated, Fail> {
+    let load = load_of(alloc, text)?;
+    simulate(alloc, &load)
+        .ok()
+        .ok_or("no memory")
+        .map_err(Fail::from)
+}
+
 /// Whether the simulation of the text, given in parts, has so many items and bytes, of which these
 /// are the last.
 fn simulates(
@@ -102,11 +111,7 @@ fn simulates(
     for part in parts {
         text.extend_from_slice(part)?;
     }
-    let load = plain(alloc, &text)?;
-    let run = simulate(alloc, &load)
-        .ok()
-        .ok_or("no memory")
-        .map_err(Fail::from)?;
+    let run = simulated(alloc, &text)?;
     assert_eq!(rt; run.journal.items().len(), items);
     assert_eq!(rt; run.bytes.len(), bytes);
     assert!(rt; run.bytes.ends_with(ends));
@@ -173,4 +178,108 @@ fn two_writers(rt: HostRuntime) -> Result<(), Fail> {
     let schedule: &[u8] = b"schedule\nstep 0 9\nstep 1\n";
     let ends = &[0x0f, 0x05, 1, 0x0f, 0x06, 1, 0x0f, 0x07, 2, 0x0f, 0x08, 3];
     simulates(&rt, alloc, &[scripts, schedule], 10, 46, ends)
+}
+
+/// The first command is found after the second step, and the one that is not known after the third.
+#[test]
+fn commands_by_the_schedule(rt: HostRuntime) -> Result<(), Fail> {
+    let alloc = rt.alloc();
+    let text: &[u8] = b"module 3 M=Net\ncommand 128 0\ncommand 9\nwriter\n0 start\n1 mark 5\n\
+1 mark 6\nschedule\nstep 0\nsend\nstep 0\nsend\nstep 0\n";
+    let run = simulated(alloc, text)?;
+    assert_eq!(rt; run.journal.items().len(), 11);
+    assert_eq!(rt; run.bytes.len(), 51);
+    assert!(rt; run.bytes.ends_with(&[
+        0x0f, 0x05, 1, 0x16, 0, 0x80, 0x04, 0x05, 0x4d, 0x3d, 0x4e, 0x65, 0x74, 0, 0x0f, 0x06, 1,
+    ]));
+    let last = Item {
+        origin: Origin::Command { byte: 9, param: 0 },
+        moment: 2,
+        freed: 0,
+        outcome: Outcome::Handled,
+    };
+    assert_eq!(rt; run.journal.items().last(), Some(&last));
+    Ok(())
+}
+
+/// Without a schedule all commands are sent before the first step, and one is found after each.
+#[test]
+fn commands_that_are_left(rt: HostRuntime) -> Result<(), Fail> {
+    let text: &[u8] = b"module 3 M=Net\ncommand 7\ncommand 2\nwriter\n0 start\n1 mark 5\n\
+1 mark 6\n";
+    let ends = &[
+        0x16, 0, 0x80, 0x04, 0x05, 0x4d, 0x3d, 0x4e, 0x65, 0x74, 0, 0x0f, 0x05, 1, 0x0b, 0,
+    ];
+    simulates(&rt, rt.alloc(), &[text], 12, 50, ends)
+}
+
+/// The decimal digits of a number.
+fn put_number(number: u8, out: &mut Vec<u8>) -> Result<(), Fail> {
+    if number >= 100 {
+        out.push(b'0' + number / 100)?;
+    }
+    if number >= 10 {
+        out.push(b'0' + number / 10 % 10)?;
+    }
+    out.push(b'0' + number % 10)?;
+    Ok(())
+}
+
+/// A start is 6 items, a mark one, and a command one and its answers: there are no lines, tasks or
+/// modules.
+#[test]
+fn each_byte_as_a_command(rt: HostRuntime) -> Result<(), Fail> {
+    let alloc = rt.alloc();
+    for byte in 0..=255 {
+        let mut text = b"command ".to_vec(alloc)?;
+        put_number(byte, &mut text)?;
+        if byte >= 128 {
+            text.extend_from_slice(b" 0")?;
+        }
+        text.extend_from_slice(b"\nwriter\n0 start\n1 mark 5\nschedule\nstep 0\nsend\nstep 0\n")?;
+        let run = simulated(alloc, &text)?;
+        let items = match byte {
+            1 => 13,
+            2 | 3 | 5 | 6 => 9,
+            _ => 8,
+        };
+        assert_eq!(rt; run.journal.items().len(), items, "{byte}");
+    }
+    Ok(())
+}
+
+/// The turns of a simulation with commands give its journal again, and its bytes.
+#[test]
+fn replay_with_commands(rt: HostRuntime) -> Result<(), Fail> {
+    let alloc = rt.alloc();
+    let text: &[u8] = b"module 3 M=Net\ncommand 128 0\ncommand 9\nwriter\n0 start\n1 mark 5\n\
+1 mark 6\nschedule\nstep 0\nsend\nsend\nstep 0 2\n";
+    let load = load_of(alloc, text)?;
+    let mut steps = Vec::new(alloc);
+    for command in [false, true, true] {
+        steps.push(StepTurn { writer: 0, command })?;
+    }
+    let mut frees = Vec::new(alloc);
+    for _ in 0..8 {
+        frees.push(0)?;
+    }
+    let mut turns = Turns { steps, frees };
+    match replay(alloc, &load, &turns) {
+        Ok(run) => {
+            let first = simulated(alloc, text)?;
+            assert_eq!(rt; run.journal.items(), first.journal.items());
+            assert_eq!(rt; run.bytes.as_slice(), first.bytes.as_slice());
+        }
+        Err(_) => assert!(rt; false, "not replayed"),
+    }
+    // There is no third command.
+    match turns.steps.first_mut() {
+        Some(turn) => turn.command = true,
+        None => assert!(rt; false, "no turns"),
+    }
+    match replay(alloc, &load, &turns) {
+        Ok(_) => assert!(rt; false, "three commands"),
+        Err(fault) => assert_eq!(rt; fault, ReplayFault::BadTurns { at: 2 }),
+    }
+    Ok(())
 }

@@ -1,6 +1,8 @@
 -- A recorder that has recorded nothing.
 use Rattle.std.proofs.Common.{◌≡◌, ℕ, zero, suc, ◌≤◌, false, List, [], ◌∷◌, get_or, replicate}
 use Rattle.std.proofs.Common.{refl, sym, subst, arith}
+use Rattle.std.specs.Prelude.{Option, Some, None, IfSome}
+use Rattle.sv_ring.specs.Down.{IsFront}
 use Rattle.sv_workload.specs.Load.{Load}
 use Rattle.sv_workload.specs.Need.{IsWithinLimits, need_items, need_bytes}
 use Rattle.sv_journal.specs.declared.journal.Item.{Item}
@@ -47,3 +49,9 @@ pub no_command : (items : List Item) (answered : List ℕ) → items ≡ [] → 
     → IsInbox items answered [] 0
 no_command items answered items_is answered_is = rw (items_is, answered_is)
     (record { count_is = refl; answered_is = refl; waits = tt })
+
+-- of a ring of which nothing is taken
+pub front_none : (asked : Option (List ℕ)) (answered : List ℕ) → answered ≡ []
+    → IfSome asked (IsFront answered)
+front_none None answered none = tt
+front_none (Some bytes) answered none = rw none refl

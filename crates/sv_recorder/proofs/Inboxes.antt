@@ -3,7 +3,7 @@ use Rattle.std.proofs.Common.{◌≡◌, ℕ, ◌+◌, ◌^◌, ◌<◌, ◌≤�
 use Rattle.std.proofs.Common.{sym, ap, ◌∙◌, subst, arith, rules, append-nil, append_assoc}
 use Rattle.std.specs.Prelude.{Option, Some, None, IfSome, IsNone, ◌↔◌, nat_lt, if◌then◌else◌}
 use Rattle.sv_ring.specs.declared.down_reader.DownReader.{Ghosts}
-use Rattle.sv_ring.specs.Down.{given, empties_after}
+use Rattle.sv_ring.specs.Down.{given, empties_after, IsFront}
 use Rattle.sv_ring.specs.Looks.{Rose}
 use Rattle.sv_workload.specs.declared.load.Command.{Command}
 use Rattle.sv_recorder.specs.declared.inbox.Inbox.{Inbox}
@@ -49,6 +49,7 @@ module _ {D : Type 0} (d : Ghosts D) where
     pub answered : d.answered new ≡ d.answered old ++ given result
     pub empties : d.empties new ≡ empties_after result (d.empties old)
     pub asked : d.asked new ≡ d.asked old
+    pub front : IfSome (d.asked new) (IsFront (d.answered new))
     pub all : IfSome (d.asked old) (λ bytes. IsNone result ↔ (d.answered old ≡ bytes))
 
   pub no_byte : (old new : D) (result : Option ℕ) → Nexts old new result → result ≡ None
@@ -82,6 +83,8 @@ module _ {D : Type 0} (d : Ghosts D) where
         gained = both.0;
         bytes = both.1 ∙ ap (λ (r : Option ℕ). byte ∷ given r) none ∙ sym (ap given kept);
         param = tt;
+        alone = tt;
+        front = λ h. n.front;
         waits = subst (λ (k : Option ℕ). IsWaiting (given k)) (sym kept) (long, refl);
         none = λ e. subst (λ (k : ℕ). Rose k (d.empties new.down)
             × IfSome (d.asked new.down) (λ bytes. d.answered new.down ≡ bytes)) (b.some byte some)

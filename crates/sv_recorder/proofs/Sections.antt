@@ -4,7 +4,7 @@ use Rattle.std.proofs.Common.{subst, arith, append-nil, append_assoc, inl, inr}
 use Rattle.std.specs.Prelude.{◌⊎◌, Option, Some, None, IfSome, count_by}
 use Rattle.sv_ring.specs.declared.up_writer.UpWriter.{Ghosts}
 use Rattle.sv_ring.specs.declared.down_reader.DownReader as down_reader
-use Rattle.sv_ring.specs.Down.{given}
+use Rattle.sv_ring.specs.Down.{given, IsFront}
 use Rattle.sv_workload.specs.declared.load.Command.{Command}
 use Rattle.sv_workload.specs.declared.load.Step.{Step}
 use Rattle.sv_workload.specs.Load.{Load}
@@ -66,6 +66,15 @@ module _ {D : Type 0} (d : down_reader.Ghosts D) where
   )
   asks_same inbox now most found (inr some) = (some.1.ring_same, some.1.asked_same)
 
+  -- where the ring tells what was sent, the first of that are taken
+  pub asks_front : (inbox now : Inbox D) (most : ℕ) (found : Option Command)
+      → Asking most inbox now found → IfSome (d.asked inbox.down) (IsFront (d.answered inbox.down))
+      → IfSome (d.asked now.down) (IsFront (d.answered now.down))
+  asks_front inbox now most found (inl none) front =
+      subst (λ (i : Inbox D). IfSome (d.asked i.down) (IsFront (d.answered i.down)))
+      (sym none.2) front
+  asks_front inbox now most found (inr some) front = some.1.front front
+
 module _ {U : Type 0} {u : Ghosts U} {D : Type 0} (d : down_reader.Ghosts D) where
   -- what contracts see of a book and an inbox
   abbrev pub Shown : Book U u → Inbox D → Recording
@@ -108,6 +117,8 @@ module _ {U : Type 0} {u : Ghosts U} {D : Type 0} (d : down_reader.Ghosts D) whe
             (ap (λ (f : Option Command). found_bytes f ++ given now.kept) no_command
             ∙ ap (λ (i : Inbox D). given i.kept) same);
         param = subst (λ (f : Option Command). IfSome f HasParam) (sym no_command) tt;
+        alone = subst (λ (f : Option Command). IfSome f (λ command. given now.kept ≡ []))
+            (sym no_command) tt;
         through = λ h. (
           no_command,
           record {
@@ -125,6 +136,7 @@ module _ {U : Type 0} {u : Ghosts U} {D : Type 0} (d : down_reader.Ghosts D) whe
         answered = t.gained;
         bytes = t.bytes;
         param = t.param;
+        alone = t.alone;
         through = λ h. absurd (omega (arith, h, some.0, is, count));
         none = λ few e. record { empties = (t.none e).0; all = (t.none e).1 };
       }

@@ -1,5 +1,5 @@
 -- What a section asks of the host.
-use Rattle.std.specs.Prelude.{◌≡◌, ℕ, ◌<◌, ◌≤◌, List, ◌++◌, Option, None, IfSome, length, count_by}
+use Rattle.std.specs.Prelude.{◌≡◌, ℕ, ◌<◌, ◌≤◌, List, [], ◌++◌, Option, None, IfSome, length, count_by}
 use Rattle.sv_ring.specs.Looks.{Rose}
 use Rattle.sv_workload.specs.declared.load.Command.{Command}
 use Rattle.sv_journal.specs.Items.{is_command}
@@ -18,14 +18,15 @@ pub record IsEmptied (old new : Recording) : Type 0 where
   pub empties : Rose old.empties new.empties
   pub all : IfSome new.asked (λ asked. new.answered ≡ asked)
 
--- what a section that found this command took: its bytes, after the one that waited, up to the one
--- that waits now. It asks exactly while the journal has fewer commands than the workload, and where
+-- what a section that found this command took: its bytes, after the one that waited, and no more;
+-- where it found none, up to the one that waits now. It asks exactly while the journal has fewer commands than the workload, and where
 -- it then finds none, there was none
 pub record IsAsked (old new : Recording) (found : Option Command) : Type 0 where
   pub taken : List ℕ
   pub answered : new.answered ≡ old.answered ++ taken
   pub bytes : old.kept ++ taken ≡ found_bytes found ++ new.kept
   pub param : IfSome found HasParam
+  pub alone : IfSome found (λ command. new.kept ≡ [])
   pub through : length old.load.commands ≤ count_by (λ i. is_command i.origin) old.items →
       (found ≡ None) × IsUnasked old new
   pub none : count_by (λ i. is_command i.origin) old.items < length old.load.commands →

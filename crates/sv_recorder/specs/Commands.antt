@@ -1,7 +1,7 @@
 -- Commands of the host, as the bytes that say them.
 use Rattle.std.specs.Prelude.{◌≡◌, ℕ, ◌<◌, ◌≤◌, nat_lt, List, [], ◌∷◌, ◌++◌, Option, Some, None}
 use Rattle.std.specs.Prelude.{flat_map, IfSome, ◌⊎◌, if◌then◌else◌}
-use Rattle.sv_ring.specs.Down.{given}
+use Rattle.sv_ring.specs.Down.{given, IsFront}
 use Rattle.sv_ring.specs.Looks.{Rose}
 use Rattle.sv_workload.specs.declared.load.Command.{Command}
 use Rattle.sv_journal.specs.declared.journal.Item.{Item}
@@ -42,12 +42,15 @@ pub record Begins {D : Type 0} (ring : D → List (List ℕ)) (answered : D → 
   pub bytes : given old.kept ++ taken ≡ given found
   pub kept : new.kept ≡ None
   pub count : new.count ≡ old.count
+  pub front : IfSome (asked old.down) (IsFront (answered old.down)) →
+      IfSome (asked new.down) (IsFront (answered new.down))
   pub some : (byte : ℕ) → found ≡ Some byte → empties new.down ≡ empties old.down
   pub none : found ≡ None → Rose (empties old.down) (empties new.down)
       × IfSome (asked new.down) (λ bytes. answered new.down ≡ bytes)
 
 -- the ring was asked for a command, and this one was found: what waited and was taken are its bytes
--- and what waits now. Where none was found, the last call of the ring gave no byte
+-- and what waits now, which is nothing where one was found. Where none was, the last call of the
+-- ring gave no byte
 pub record Takes {D : Type 0} (ring : D → List (List ℕ)) (answered : D → List ℕ) (empties : D → ℕ)
     (asked : D → Option (List ℕ)) (old new : Inbox D) (found : Option Command) : Type 0 where
   pub ring_same : ring new.down ≡ ring old.down
@@ -56,6 +59,9 @@ pub record Takes {D : Type 0} (ring : D → List (List ℕ)) (answered : D → L
   pub gained : answered new.down ≡ answered old.down ++ taken
   pub bytes : given old.kept ++ taken ≡ found_bytes found ++ given new.kept
   pub param : IfSome found HasParam
+  pub alone : IfSome found (λ command. given new.kept ≡ [])
+  pub front : IfSome (asked old.down) (IsFront (answered old.down)) →
+      IfSome (asked new.down) (IsFront (answered new.down))
   pub waits : IsWaiting (given new.kept)
   pub none : found ≡ None → Rose (empties old.down) (empties new.down)
       × IfSome (asked new.down) (λ bytes. answered new.down ≡ bytes)

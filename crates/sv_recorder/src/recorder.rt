@@ -3,6 +3,7 @@ ghost use Rattle.std.specs.Prelude.{IsSome, IfSome, IfNone, IfOk, count_by, leng
 ghost use Rattle.std.specs.Prelude.{Option};
 ghost use Rattle.std.specs.Prelude.{drop};
 ghost use Rattle.std.specs.Option.{option_map};
+ghost use Rattle.sv_ring.specs.Down.{IsFront};
 ghost use Rattle.sv_workload.specs.Load.{script_of};
 ghost use Rattle.sv_workload.specs.Need.{need_bytes};
 ghost use Rattle.sv_recorder.specs.Answer.{IsAnswered};
@@ -50,7 +51,8 @@ impl<'w, U: UpWriter + Drop, D: DownReader + Drop, P: Describes + Drop> Model
     for Recorder<'w, U, D, P> {
     ghost use Rattle.sv_recorder.specs.Recording.{Recording, IsRecorder, IsInbox};
     ghost use Rattle.sv_recorder.specs.Tells.{IsOver};
-    ghost use Rattle.sv_ring.specs.Down.{given};
+    ghost use Rattle.sv_ring.specs.Down.{given, IsFront};
+    ghost use Rattle.std.specs.Prelude.{IfSome};
     ghost use Rattle.std.specs.Prelude.{vec_capacity};
 
     ghost Value = { Recording };
@@ -75,7 +77,8 @@ impl<'w, U: UpWriter + Drop, D: DownReader + Drop, P: Describes + Drop> Model
         (U.sent r.book.up) (U.freed r.book.up) (U.limit r.book.up)
         r.book.on r.book.pending r.book.last r.book.moment r.places (vec_capacity r.book.journal)
         × IsInbox r.book.journal.items (D.answered r.inbox.down) (given r.inbox.kept) r.inbox.count
-        × IsOver P.kept P.lines P.clock r.book.load.now r.desc };
+        × IsOver P.kept P.lines P.clock r.book.load.now r.desc
+        × IfSome (D.asked r.inbox.down) (IsFront (D.answered r.inbox.down)) };
 }
 
 /// What is left of a recorder: its journal, and its ends of the rings.
@@ -152,13 +155,15 @@ impl<'w, U: UpWriter + Drop, D: DownReader + Drop, P: Describes + Drop> Recorder
 
     /// What the type keeps: the journal is legal for its workload, the bytes sent are its stream,
     /// and no more of them are known to be freed; and the bytes taken from the host are those of
-    /// its commands, and at most one that waits for its parameter.
+    /// its commands, and at most one that waits for its parameter, the first ones that were sent
+    /// where the ring tells those.
     pub fn keeps(&self)
         ensures legal { IsLegal self.now.load self.now.items }
         ensures stream { self.now.sent ≡ stream_of self.now.load self.now.items }
         ensures freed { self.now.freed ≤ length self.now.sent }
         ensures answered { self.now.answered ≡ bytes_in self.now.items ++ self.now.kept }
         ensures waits { IsWaiting self.now.kept }
+        ensures front { IfSome self.now.asked (IsFront self.now.answered) }
     {
         let _ = &self.book;
     }

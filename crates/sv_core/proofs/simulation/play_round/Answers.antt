@@ -7,7 +7,7 @@ use Rattle.sv_core.proofs.simulation.play_round.Goals.{then-step, else-step}
 use Rattle.sv_core.proofs.simulation.play_round.Goals as goal
 
 pub loop-writer-preserved : goal.loop-writer-preserved
-loop-writer-preserved c =
+loop-writer-preserved g c =
     let load = c.args.load.now in
     let writer = c.loop-writer.writer in
     let below : writer < length load.scripts =
@@ -39,7 +39,7 @@ loop-writer-preserved c =
     ]
 
 pub returns-clause-played : goal.returns-clause-played
-returns-clause-played c = λ rounds played.
+returns-clause-played g c = λ rounds played.
     played-round c.args.load.now rounds c.loop-writer.writer c.loop-writer.recorder
     (omega (
       arith,

@@ -7,7 +7,7 @@ use Rattle.sv_core.proofs.PlayingLines.{most-more, most-within}
 use Rattle.sv_core.proofs.simulation.rounds_left.Goals as goal
 
 pub loop-writer-preserved : goal.loop-writer-preserved
-loop-writer-preserved c =
+loop-writer-preserved g c =
     let load = c.args.load.now in
     let items = c.args.recorder.now.items in
     let writer = c.loop-writer.writer in

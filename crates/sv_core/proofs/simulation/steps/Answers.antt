@@ -5,7 +5,7 @@ use Rattle.sv_core.proofs.OrderParts.{possible-same, step_asked, steps_through}
 use Rattle.sv_core.proofs.simulation.steps.Goals as goal
 
 pub returns-then-not-step-clause-played : goal.returns-then-not-step-clause-played
-returns-then-not-step-clause-played c = λ load asked played.
+returns-then-not-step-clause-played g c = λ load asked played.
     let writer = c.args.writer in
     let so_far = replicate c.loop.counter (Takes_step writer) ++ asked in
     let before = c.loop.invariant.played load asked played in
@@ -21,7 +21,7 @@ returns-then-not-step-clause-played c = λ load asked played.
     (c.step.ensures.played load (possible load so_far) before)
 
 pub loop-preserved : goal.loop-preserved
-loop-preserved c = record {
+loop-preserved g c = record {
   same = c.step.ensures.load ∙ c.loop.invariant.same;
   played = λ load asked played.
       let t = Takes_step c.args.writer in

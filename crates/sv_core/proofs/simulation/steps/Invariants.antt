@@ -5,7 +5,7 @@ use Rattle.sv_core.specs.Played.{IsPlayed}
 use Rattle.sv_core.proofs.simulation.steps.Given as goal
 
 abbrev pub invariant-loop : goal.invariant-loop
-invariant-loop l = record {
+invariant-loop g l = record {
   same : l.recorder.load ≡ l.fn.recorder.load;
   played : (load : Load) → (asked : List Turn) →
       IsPlayed load (possible load asked) l.fn.recorder →

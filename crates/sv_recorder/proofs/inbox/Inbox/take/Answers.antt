@@ -12,5 +12,6 @@ returns-in_default-clause-takes g c =
       answered = n.answered;
       empties = n.empties;
       asked = n.asked;
+      front = n.front;
       all = n.all;
     }) c.in_default.is refl

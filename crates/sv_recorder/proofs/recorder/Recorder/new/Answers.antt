@@ -1,5 +1,5 @@
 use Rattle.std.proofs.Common.{ap, ◌∙◌, vec_capacity, arith}
-use Rattle.sv_recorder.proofs.Fresh.{fresh, no_command}
+use Rattle.sv_recorder.proofs.Fresh.{fresh, no_command, front_none}
 use Rattle.sv_recorder.proofs.recorder.Recorder.new.Goals as goal
 
 pub invariant_of-result : goal.invariant_of-result
@@ -22,4 +22,6 @@ invariant_of-result g c =
         lines_are = c.requires.lines;
         clock_is = c.requires.clock;
       },
+      front_none (g.D.DownReader.asked c.args.down) (g.D.DownReader.answered c.args.down)
+          c.requires.answered,
     )

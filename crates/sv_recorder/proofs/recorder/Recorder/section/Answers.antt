@@ -141,6 +141,8 @@ invariant_of-self g c =
           c.next-found.ensures.count c.next-found.ensures.waits,
       subst (λ l. IsOver g.P.Describes.kept g.P.Describes.lines g.P.Describes.clock l
           c.self.inside.desc) (sym load) c.self.invariant.2,
+      sections.asks_front g.D.DownReader c.self.inside.inbox c.next-found.new.self _
+          c.next-found.result c.next-found.ensures.asks c.self.invariant.3,
     )
 
 pub returns-clause-section : goal.returns-clause-section

@@ -39,19 +39,21 @@ abbrev pub is_found : Option Command → Bool
 is_found None = false
 is_found (Some command) = true
 
-same_command : (a b p q : ℕ) → a ≡ b → p ≡ q
-    → record { byte = a; param = p } ≡ (record { byte = b; param = q } : Command)
+abbrev command_at : ℕ → ℕ → Command
+command_at byte param = record { byte = byte; param = param }
+
+same_command : (a b p q : ℕ) → a ≡ b → p ≡ q → command_at a p ≡ command_at b q
 same_command a b p q e f = cc
 
 -- bytes that begin with those of two commands begin with one
 same_first : (c d : Command) (xs ys : List ℕ) → HasParam c → HasParam d
     → command_bytes c ++ xs ≡ command_bytes d ++ ys → c ≡ d
 same_first c d xs ys p q e = at (nat_lt c.byte 128) (nat_lt d.byte 128) refl refl e where
-  heads : (a b : ℕ) (as bs : List ℕ) → a ∷ as ≡ b ∷ bs → a ≡ b
-  heads a b as bs e = cc
+  heads : (a b : ℕ) (xs ys : List ℕ) → a ∷ xs ≡ b ∷ ys → a ≡ b
+  heads a b xs ys e = cc
 
-  seconds : (a b m n : ℕ) (as bs : List ℕ) → a ∷ (m ∷ as) ≡ b ∷ (n ∷ bs) → m ≡ n
-  seconds a b m n as bs e = cc
+  seconds : (a b m n : ℕ) (xs ys : List ℕ) → a ∷ (m ∷ xs) ≡ b ∷ (n ∷ ys) → m ≡ n
+  seconds a b m n xs ys e = cc
 
   at : (a b : Bool) → nat_lt c.byte 128 ≡ a → nat_lt d.byte 128 ≡ b
       → (if a then c.byte ∷ [] else c.byte ∷ c.param ∷ []) ++ xs
@@ -78,8 +80,8 @@ same_first c d xs ys p q e = at (nat_lt c.byte 128) (nat_lt d.byte 128) refl ref
 none_waits : (d : Command) (bytes kept : List ℕ) → command_bytes d ++ bytes ≡ kept
     → IsWaiting kept → ⊥
 none_waits d bytes kept e waits = at (nat_lt d.byte 128) refl kept e waits where
-  heads : (a b : ℕ) (as bs : List ℕ) → a ∷ as ≡ b ∷ bs → a ≡ b
-  heads a b as bs e = cc
+  heads : (a b : ℕ) (xs ys : List ℕ) → a ∷ xs ≡ b ∷ ys → a ≡ b
+  heads a b xs ys e = cc
 
   at : (a : Bool) → nat_lt d.byte 128 ≡ a → (kept : List ℕ)
       → (if a then d.byte ∷ [] else d.byte ∷ d.param ∷ []) ++ bytes ≡ kept → IsWaiting kept → ⊥

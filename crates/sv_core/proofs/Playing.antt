@@ -149,8 +149,8 @@ played-section load turns before after writer found p left same legal stream s m
           × (is_found found
           ≡ nat_lt (count_by (λ i. is_command i.origin) before.items) (count_by is_send turns))
       host =
-          sent-section load before after (count_by is_send turns) found p.sent p.same gained
-          asked_same front waits asked
+          let h = sent-section load before after (count_by is_send turns) found p.sent p.same
+          gained asked_same front waits asked in (h.0, h.1)
 
       done : IsInOrder load next (before.items ++ s.more)
           × (taken_in load (before.items ++ s.more) (reverse next)

@@ -3,7 +3,7 @@ use Rattle.std.proofs.Common.{◌≡◌, ℕ, zero, suc, ◌+◌, ◌<◌, ◌�
 use Rattle.std.proofs.Common.{refl, append_assoc}
 use Rattle.std.proofs.Common.{◌++◌, length, reverse, replicate, ◌⊎◌, inl, inr, sym, ap}
 use Rattle.std.proofs.Common.{◌∙◌, subst, arith, append-nil, add-one}
-use Rattle.std.specs.Prelude.{max, count_by, slice_index_or, nat_lt, Bool, ◌-◌}
+use Rattle.std.specs.Prelude.{max, min, count_by, slice_index_or, nat_lt, Bool, ◌-◌}
 use Rattle.std.proofs.lemmas.List.{replicate_more}
 use Rattle.std.proofs.lemmas.Bool.{cases_order, cases_lt}
 use Rattle.sv_workload.specs.declared.load.Action.{Action}
@@ -16,8 +16,8 @@ use Rattle.sv_core.specs.Order.{Turn, Takes_step, Reads, Sends}
 use Rattle.sv_core.specs.Order.{line_turns, is_possible, possible, is_send, scheduled}
 use Rattle.sv_core.specs.Played.{IsPlayed, IsSending, with_step, played_rounds}
 use Rattle.sv_core.proofs.Counts.{lt_true, lt_false, count-cons}
-use Rattle.sv_core.proofs.TurnCounts.{count-append}
-use Rattle.sv_core.proofs.OrderParts.{send-same, asked_by, line_more, reverse-replicate}
+use Rattle.sv_core.proofs.TurnCounts.{count-append, count-reverse}
+use Rattle.sv_core.proofs.OrderParts.{count_sends, send-same, asked_by, line_more, reverse-replicate}
 use Rattle.sv_core.proofs.RoundParts.{round_part, part_all}
 use Rattle.sv_core.proofs.Rounds.{part_step, part_idle, rounds_more, script_within}
 use Rattle.sv_core.proofs.Playing.{own_calls, played-read_all, played-send}
@@ -47,6 +47,47 @@ played-line load at d recorder most below line p =
     subst (λ ts. IsPlayed load (possible load ts) recorder)
     (sym
     (line_more load at d below ∙ ap (λ a. reverse (line_turns a) ++ asked_by load at) line)) p
+
+-- lines that send nothing
+sends_same : (load : Load) (at : ℕ) (d : Action) → at < length load.schedule
+    → count_by is_send (line_turns (slice_index_or load.schedule at d)) ≡ 0
+    → count_by is_send (possible load (asked_by load (at + 1)))
+    ≡ count_by is_send (possible load (asked_by load at))
+sends_same load at d below none =
+    count_sends load (asked_by load (at + 1))
+    ∙ (ap (λ n. min n (length load.commands))
+    (ap (count_by is_send) (line_more load at d below)
+    ∙ (count-append is_send (reverse (line_turns (slice_index_or load.schedule at d)))
+    (asked_by load at)
+    ∙ (ap (λ n. n + count_by is_send (asked_by load at))
+    (count-reverse is_send (line_turns (slice_index_or load.schedule at d)) ∙ none)
+    ∙ rest (count_by is_send (asked_by load at)))))
+    ∙ sym (count_sends load (asked_by load at))) where
+      rest : (n : ℕ) → 0 + n ≡ n
+      rest n = omega arith
+
+pub sends-steps : (load : Load) (at : ℕ) (d : Action) (writer count : ℕ)
+    → at < length load.schedule
+    → slice_index_or load.schedule at d ≡ actions.Step writer count
+    → count_by is_send (possible load (asked_by load (at + 1)))
+    ≡ count_by is_send (possible load (asked_by load at))
+sends-steps load at d writer count below line =
+    sends_same load at d below
+    (ap (λ a. count_by is_send (line_turns a)) line ∙ all count) where
+      all : (n : ℕ) → count_by is_send (replicate n (Takes_step writer)) ≡ 0
+      all zero = refl
+      all (suc n) =
+          count-cons is_send (Takes_step writer) (replicate n (Takes_step writer))
+          ∙ omega (arith, all n)
+
+pub sends-read : (load : Load) (at : ℕ) (d : Action) (most : ℕ)
+    → at < length load.schedule → slice_index_or load.schedule at d ≡ actions.Read most
+    → count_by is_send (possible load (asked_by load (at + 1)))
+    ≡ count_by is_send (possible load (asked_by load at))
+sends-read load at d most below line =
+    sends_same load at d below
+    (ap (λ a. count_by is_send (line_turns a)) line
+    ∙ count-cons is_send (Reads most) [] ∙ omega arith)
 
 -- the turns asked for, with a line of a send
 line_is : (load : Load) (at : ℕ) (d : Action) → at < length load.schedule
@@ -104,7 +145,7 @@ played-line_send load at d before after sent below line p none some =
 -- THE COMMANDS THAT ARE LEFT
 
 -- how many were sent by then
-sends-left : (load : Load) (done : ℕ)
+pub sends-left : (load : Load) (done : ℕ)
     → count_by is_send (scheduled load ++ replicate done Sends)
     ≡ count_by is_send (scheduled load) + done
 sends-left load done =

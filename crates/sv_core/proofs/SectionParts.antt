@@ -116,7 +116,7 @@ first_parts c rest writer step found os other group heads =
 module _ (load : Load) (items : List Item) (writer step : ℕ) (found : Option Command)
     (old : IsLegal load items) where
   -- what follows the call
-  rest_of : List Origin
+  abbrev rest_of : List Origin
   rest_of =
       answers_of load (Call writer step) ++ flat_map (group_of load) (command_head found)
 
@@ -260,7 +260,7 @@ latest_parts items more p =
     ∙ append_assoc (reverse p.rest) (p.call ∷ []) (latest_first (items ++ p.front)))))
 
 -- before the section stand the items without it
-pub pub before_this : (load : Load) (items more : List Item) → IsLegal load items → HasParts items more
+pub before_this : (load : Load) (items more : List Item) → IsLegal load items → HasParts items more
     → before_section (items ++ more) (calls_in (latest_first items)) ≡ latest_first items
 before_this load items more old p =
     let n : ℕ = calls_in (latest_first items) in

@@ -13,7 +13,7 @@ use Rattle.sv_stream.specs.declared.end.End.TheVariants.{Clean, NoSync}
 use Rattle.sv_stream.specs.Reads.{Reads}
 use Rattle.sv_workload.specs.declared.load.Step.{Step}
 use Rattle.sv_workload.specs.declared.load.Task.{Task}
-use Rattle.sv_workload.specs.declared.load.ModuleRow.{ModuleRow}
+use Rattle.sv_desc.specs.Modules.{ModuleRow}
 use Rattle.sv_workload.specs.Load.{Load}
 use Rattle.sv_workload.specs.Limits.{most_ticks}
 use Rattle.sv_workload.specs.Need.{HasWords, IsAsked, IsStepAct, IsTask, IsTurn, IsWithinLimits}

@@ -18,7 +18,8 @@ use Rattle.sv_workload.specs.declared.load.Act.{Act}
 use Rattle.sv_workload.specs.declared.load.Act.TheVariants as acts
 use Rattle.sv_workload.specs.declared.load.Step.{Step}
 use Rattle.sv_workload.specs.declared.load.Task.{Task}
-use Rattle.sv_workload.specs.declared.load.ModuleRow.{ModuleRow}
+use Rattle.sv_desc.specs.Modules.{ModuleRow}
+use Rattle.sv_desc.specs.Says.{micros_at}
 use Rattle.sv_workload.specs.Need.{IsStepAct, IsWithinLimits}
 use Rattle.sv_workload.specs.Load.{Load, act_of, script_of, period}
 use Rattle.sv_journal.specs.declared.journal.Kind.{Kind}
@@ -29,7 +30,7 @@ use Rattle.sv_journal.specs.declared.journal.Origin.TheVariants.{Command}
 use Rattle.sv_journal.specs.declared.journal.Item.{Item}
 use Rattle.sv_journal.specs.Items.{latest_first, is_overflow, is_stored, is_packet, is_refused}
 use Rattle.sv_journal.specs.Items.{is_sync, event_of, pending_at, act_event, event_at, reply_event}
-use Rattle.sv_journal.specs.Items.{system_time, micros_at, task_info, stack_info, module_desc}
+use Rattle.sv_journal.specs.Items.{system_time, task_info, stack_info, module_desc}
 use Rattle.sv_journal.specs.Legal.{EachItem, IsLegal, IsCount}
 use Rattle.sv_need.proofs.Shared.{few_items}
 use Rattle.sv_core.proofs.reads.Texts.{IsSpeakable, IsSpeakableText, IsSpeakableTask, speakable}
@@ -126,10 +127,10 @@ time : (load : Load) (moment : ℕ) → IsSpoken (system_time load moment)
 time load moment = elim load.timed as
     (λ b.
     IsSpoken
-    (cond b (events.SystimeUs (micros_at load moment % 2 ^ 32) (micros_at load moment / 2 ^ 32))
+    (cond b (events.SystimeUs (micros_at load.clock moment % 2 ^ 32) (micros_at load.clock moment / 2 ^ 32))
     (events.SystimeCycles (moment % period load)))) [
       | true ↦ (
-        (low (micros_at load moment), (high ((moment * 1000000) / load.clock), tt)),
+        (low (micros_at load.clock moment), (high ((moment * 1000000) / load.clock), tt)),
         record { texts = (tt, (tt, tt)); payload = λ h. absurd (omega (arith, h)); as_bytes = tt },
       )
       | false ↦ (

@@ -5,8 +5,8 @@ use Rattle.std.proofs.lemmas.List.Elements.{All-cons, All-head, All-nil, All-tai
 use Rattle.std.proofs.lemmas.List.Sums.{sum_by-cons}
 use Rattle.sv_prim.specs.Text.{AreBytes}
 use Rattle.sv_workload.specs.declared.load.Task.{Task}
-use Rattle.sv_workload.specs.declared.load.ModuleRow.{ModuleRow}
-use Rattle.sv_workload.specs.Load.{Load, offset_after}
+use Rattle.sv_desc.specs.Modules.{ModuleRow, offset_after}
+use Rattle.sv_workload.specs.Load.{Load}
 use Rattle.sv_workload.specs.Need.{HasWords, IsWithinLimits}
 
 -- a text that a packet can hold

@@ -12,7 +12,7 @@ returns-clause-simulated g c =
     omega (arith, c.loop-test.false, c.loop.auto.counter-end) in
     let are : AreEnough load c.rounds_left-rounds.result =
     are-enough load c.send_left.new.recorder c.rounds_left-rounds.result
-    c.send_left.ensures rounds.enough rounds.within in
+    c.send_left.ensures.played rounds.enough rounds.within in
     played-all load c.read_all.new.recorder c.loop.counter (subst (AreEnough load) (sym all) are)
     (played-read_all load (played_rounds load c.loop.counter) c.loop.recorder
     c.read_all.new.recorder c.loop.invariant c.read_all.ensures)

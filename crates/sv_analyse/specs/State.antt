@@ -1,5 +1,5 @@
 -- What an analyser keeps of its input.
-use Rattle.std.specs.Prelude.{◌≡◌, ℕ, ◌+◌, ◌≤◌, Bool, true, false, List, length, ◌*◌, map}
+use Rattle.std.specs.Prelude.{◌≡◌, ℕ, ◌+◌, ◌≤◌, Bool, true, false, List, length, ◌*◌, map, ◌++◌}
 use Rattle.sv_packet.specs.declared.event.TimedEvent.{TimedEvent}
 use Rattle.sv_packet.specs.declared.event.Packet.{Packet}
 use Rattle.sv_packet.specs.Time.{timed}
@@ -7,6 +7,7 @@ use Rattle.sv_stream.specs.declared.end.End.{End}
 use Rattle.sv_stream.specs.Reads.{Reads}
 use Rattle.sv_stream.specs.Decoding.{Decoding, pushed, IsSettled, StandsFor as DecoderStandsFor}
 use Rattle.sv_timeline.specs.declared.span.Span.{Span}
+use Rattle.sv_timeline.specs.Runs.{ended_runs}
 use Rattle.sv_timeline.specs.State.{State as TimelineState, StandsFor as TimelineStandsFor}
 use Rattle.sv_analyse.specs.NamesState.{NamesState, NamesStandFor}
 use Rattle.sv_latency.specs.State.{State as LatencyState, StandsFor as LatencyStandsFor}
@@ -68,3 +69,10 @@ abbrev pub AreAll : Decoding → Type 0
 AreAll decoder =
     (input : List ℕ) (events : List TimedEvent) → DecoderStandsFor decoder input events →
     (packets : List Packet) (end : End) → Reads input packets end → events ≡ timed packets
+
+-- the first of the runs that have ended in the input were added, after those that were given before
+abbrev pub HasAdded : List ℕ → List Span → List Span → List Span → Type 0
+HasAdded input given before after =
+    (packets : List Packet) (end : End) → Reads input packets end →
+    (more : List Span) × (rest : List Span) × (after ≡ before ++ more)
+    × (ended_runs (timed packets) ≡ given ++ (more ++ rest))

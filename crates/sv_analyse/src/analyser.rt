@@ -11,7 +11,7 @@ ghost use Rattle.sv_stream.specs.Decoding.{pushed, IsSettled, StandsFor as Decod
 ghost use Rattle.sv_timeline.specs.declared.span.Span.{Span as Run};
 ghost use Rattle.sv_timeline.specs.Timeline.{IsTimeline};
 ghost use Rattle.sv_analyse.specs.Report.{report_of};
-ghost use Rattle.sv_analyse.specs.State.{StandsFor, AnalysisStandsFor, AreAbreast, AreAll};
+ghost use Rattle.sv_analyse.specs.State.{StandsFor, AnalysisStandsFor, AreAbreast, AreAll, HasAdded};
 
 use crate::analysis::Analysis;
 use crate::report::Report;
@@ -64,6 +64,9 @@ fn drain(
     ensures abreast { OnOk result (AreAbreast decoder.new analysis.new) }
     ensures pushed { pushed decoder.new ≡ pushed decoder.old }
     ensures failed { OnErr result (analysis.new.failed ≡ true) }
+    ensures part { OnErr result ((input : List ℕ) (events : List Timed) (given : List Run) →
+        DecoderStandsFor decoder.old input events → AnalysisStandsFor analysis.old events given →
+        HasAdded input given spans.old.items spans.new.items) }
 {
     loop {
         let Some(front) = decoder.front() else {
@@ -95,8 +98,8 @@ impl Analyser {
     /// The input goes on with the piece, and the runs that have ended are added to `spans`. All
     /// pieces together have at most 2^33 bytes. After damage later bytes change nothing.
     ///
-    /// After NoMemory some of these runs were added, and every later `feed` and `report` answers
-    /// NoMemory.
+    /// After NoMemory the first of these runs were added, maybe none, and every later `feed` and
+    /// `report` answers NoMemory.
     pub fn feed(&mut self, piece: &[u8], spans: &mut Vec<Span>) -> Result<(), NoMemory>
         requires within { pushed self.old.decoder + length piece.now ≤ 2 ^ 33 }
         ensures stands { OnOk result ((input : List ℕ) (given : List Run) →
@@ -108,6 +111,9 @@ impl Analyser {
         ensures live { OnOk result
             ((self.old.analysis.failed ≡ false) × (self.new.analysis.failed ≡ false)) }
         ensures failed { OnErr result (self.new.analysis.failed ≡ true) }
+        ensures part { OnErr result ((input : List ℕ) (given : List Run) →
+            StandsFor self.old input given →
+            HasAdded (input ++ piece.now) given spans.old.items spans.new.items) }
         ensures again { self.old.analysis.failed ≡ true → self.new.analysis.failed ≡ true }
     {
         if self.analysis.has_failed() {

@@ -1,6 +1,6 @@
 //! What the events so far say.
 ghost use Rattle.std.specs.Prelude.{◌≡◌, ◌+◌, ◌^◌, ◌<◌, ◌≤◌, ◌++◌, List, [], ◌∷◌, ◌↔◌};
-ghost use Rattle.std.specs.Prelude.{false, true, IfOk, OnOk, OnErr, IsNone, option_to_list};
+ghost use Rattle.std.specs.Prelude.{false, true, IfOk, IsOk, OnOk, OnErr, IsNone, option_to_list};
 ghost use Rattle.sv_packet.specs.declared.event.TimedEvent.{TimedEvent as Timed};
 ghost use Rattle.sv_packet.specs.EventRef.{seen_at};
 ghost use Rattle.sv_packet.specs.Events.{last_time};
@@ -23,8 +23,8 @@ use sv_prim::NoMemory;
 use sv_stream::End;
 use sv_timeline::{Span, Timeline};
 
-/// The timeline, the latencies and the names of the events so far. Once memory was wanting it has
-/// failed, and stands for nothing.
+/// The timeline, the latencies and the names of the events so far, however they were decoded. Once
+/// memory was wanting it has failed, and stands for nothing.
 #[derive(Drop)]
 pub struct Analysis {
     alloc: Global,
@@ -76,7 +76,36 @@ impl Analysis {
         self.failed = true;
     }
 
-    /// Goes on with the next event at its time in ticks, and adds the run that it ends to `spans`.
+    /// Goes on with the next event at its time in ticks, which is not before the one before it, and
+    /// gives the run that it ends, if it ends one. Fewer than 2^32 events were before it.
+    ///
+    /// After NoMemory it has failed for good.
+    #[inline(always)]
+    pub fn step(&mut self, time: u64, event: &EventRef<'_>) -> Result<Option<Span>, NoMemory>
+        requires live { self.old.failed ≡ false }
+        requires few { self.old.packets < 2 ^ 32 }
+        requires order { self.old.timeline.last ≤ time }
+        ensures stands { OnOk result ((events : List Timed) (given : List Run) →
+            AnalysisStandsFor self.old events given →
+            AnalysisStandsFor self.new (events ++ seen_at time event.now ∷ [])
+            (given ++ ended_by self.old.timeline (seen_at time event.now))) }
+        ensures run { IfOk result (λ run.
+            option_to_list run ≡ ended_by self.old.timeline (seen_at time event.now)) }
+        ensures live { OnOk result (self.new.failed ≡ false) }
+        ensures packets { OnOk result (self.new.packets ≡ self.old.packets + 1) }
+        ensures last { OnOk result (self.new.timeline.last ≡ time) }
+        ensures failed { OnErr result (self.new.failed ≡ true) }
+    {
+        self.failed = true;
+        let run = self.timeline.step(time, event)?;
+        self.latency.apply(time, event)?;
+        self.names.note(event)?;
+        self.packets += 1;
+        self.failed = false;
+        Ok(run)
+    }
+
+    /// The same, and adds the run to `spans`, which stay as they were after NoMemory.
     #[inline(always)]
     pub fn note(
         &mut self,
@@ -93,17 +122,19 @@ impl Analysis {
             (given ++ ended_by self.old.timeline (seen_at time event.now))) }
         ensures spans { OnOk result (spans.new.items
             ≡ spans.old.items ++ ended_by self.old.timeline (seen_at time event.now)) }
+        ensures kept { OnErr result (spans.new.items ≡ spans.old.items) }
         ensures live { OnOk result (self.new.failed ≡ false) }
         ensures packets { OnOk result (self.new.packets ≡ self.old.packets + 1) }
         ensures last { OnOk result (self.new.timeline.last ≡ time) }
         ensures failed { OnErr result (self.new.failed ≡ true) }
     {
-        self.failed = true;
-        self.timeline.apply(time, event, spans)?;
-        self.latency.apply(time, event)?;
-        self.names.note(event)?;
-        self.packets += 1;
-        self.failed = false;
+        let Some(run) = self.step(time, event)? else {
+            return Ok(());
+        };
+        if spans.push(run).is_err() {
+            self.failed = true;
+            return Err(NoMemory);
+        }
         Ok(())
     }
 
@@ -135,12 +166,15 @@ impl Analysis {
         }
     }
 
-    /// The report of the events so far, with this end.
+    /// The report of the events so far, with this end. NoMemory where it has failed as well.
     pub fn report(&self, end: End) -> Result<Report, NoMemory>
-        requires live { self.now.failed ≡ false }
-        ensures { IfOk result (λ report. (events : List Timed) (given : List Run) →
+        ensures report { IfOk result (λ report. (events : List Timed) (given : List Run) →
             AnalysisStandsFor self.now events given → report ≡ report_from events end) }
+        ensures live { IsOk result → self.now.failed ≡ false }
     {
+        if self.failed {
+            return Err(NoMemory);
+        }
         let ticks = self.ticks();
         let (lost, overflows) = self.names.losses();
         let descs = copies(self.alloc, self.names.descs())?;

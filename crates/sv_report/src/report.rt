@@ -210,16 +210,24 @@ fn put_tasks(lines: &[TaskLine], out: &mut Vec<u8>) -> Result<(), AllocError>
     Ok(())
 }
 
-/// The report's text: a line for each of its parts, as docs/OUTPUT.md shows them.
+/// Appends the report's text: a line for each of its parts, as docs/OUTPUT.md shows them. NoMemory
+/// leaves `out` open.
+pub fn put_report(report: &Report, out: &mut Vec<u8>) -> Result<(), NoMemory>
+    ensures { OnOk result (out.new.items ≡ out.old.items ++ text_of report.now) }
+{
+    put_head(report, out)?;
+    put_descs(report.descs.lines(), out)?;
+    put_modules(report.modules.lines(), out)?;
+    put_loads(report.loads.lines(), out)?;
+    put_tasks(report.tasks.lines(), out)?;
+    end_line(&report.end, out)
+}
+
+/// The report's text.
 pub fn text(alloc: Global, report: &Report) -> Result<Vec<u8>, NoMemory>
     ensures { IfOk result (λ text. text.items ≡ text_of report.now) }
 {
     let mut out = Vec::new(alloc);
-    put_head(report, &mut out)?;
-    put_descs(report.descs.lines(), &mut out)?;
-    put_modules(report.modules.lines(), &mut out)?;
-    put_loads(report.loads.lines(), &mut out)?;
-    put_tasks(report.tasks.lines(), &mut out)?;
-    end_line(&report.end, &mut out)?;
+    put_report(report, &mut out)?;
     Ok(out)
 }

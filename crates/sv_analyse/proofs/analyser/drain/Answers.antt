@@ -1,5 +1,9 @@
+use Rattle.std.proofs.Common.{List, sym, subst}
 use Rattle.sv_packet.specs.EventRef.{seen, seen_at}
-use Rattle.sv_analyse.proofs.Draining.{kept_on}
+use Rattle.sv_timeline.specs.declared.span.Span.{Span}
+use Rattle.sv_analyse.specs.State.{HasAdded}
+use Rattle.sv_analyse.proofs.Draining.{kept_on, added_so_far}
+use Rattle.sv_analyse.proofs.Results.{on_err}
 use Rattle.sv_analyse.proofs.analyser.drain.Goals as goal
 
 pub loop-front-preserved : goal.loop-front-preserved
@@ -23,3 +27,13 @@ pub returns-in-Err-Damaged-clause-all : goal.returns-in-Err-Damaged-clause-all
 returns-in-Err-Damaged-clause-all c = λ input events d packets end reads.
     let next = rw c.in-Err-Damaged.field-0-is at c.in-Err-Damaged.ensures.next in
     (next input events ((c.in-Err-Damaged.ensures.stands input events).1 d) packets end reads).0
+
+pub returns-in_err-note-clause-part : goal.returns-in_err-note-clause-part
+returns-in_err-note-clause-part c =
+    on_err c.from_residual.result
+    (λ input events given d a.
+    subst (λ (last : List Span). HasAdded input given c.args.spans.now.items last)
+    (sym c.in_err-note.ensures.kept)
+    (added_so_far c.args.decoder.now c.loop-front.decoder c.args.analysis.now
+    c.loop-front.analysis c.args.spans.now.items c.loop-front.spans.items
+    c.loop-front.invariant.stands input events given d a))

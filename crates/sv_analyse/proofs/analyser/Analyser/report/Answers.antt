@@ -8,7 +8,7 @@ use Rattle.sv_analyse.proofs.analyser.Analyser.report.Goals as goal
 
 pub returns-clause-report : goal.returns-clause-report
 returns-clause-report c =
-    then_if c.report.result c.report.ensures
+    then_if c.report.result c.report.ensures.report
     (λ report said input given now packets end reads.
     let s = subst (λ (state : State). StandsFor state input given) (sym c.self.view_is) now in
     said s.events given s.analysis

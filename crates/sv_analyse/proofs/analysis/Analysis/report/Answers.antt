@@ -10,8 +10,8 @@ use Rattle.sv_analyse.specs.State.{AnalysisState, AnalysisStandsFor}
 use Rattle.sv_analyse.proofs.Reported.{modules_are, tasks_are, parts_are}
 use Rattle.sv_analyse.proofs.analysis.Analysis.report.Goals as goal
 
-pub returns : goal.returns
-returns c = λ events given now.
+pub returns-clause-report : goal.returns-clause-report
+returns-clause-report c = λ events given now.
     let s = subst (λ (state : AnalysisState). AnalysisStandsFor state events given)
     (sym c.self.view_is) now in
     let plain : List Event = map (λ (e : TimedEvent). e.event) events in

@@ -7,14 +7,14 @@ use Rattle.sv_timeline.specs.declared.span.Span.{Span}
 use Rattle.sv_timeline.specs.State.{ended_by}
 use Rattle.sv_analyse.specs.NamesState.{NamesStandFor}
 use Rattle.sv_analyse.specs.State.{AnalysisState, AnalysisStandsFor}
-use Rattle.sv_analyse.proofs.analysis.Analysis.note.Goals as goal
+use Rattle.sv_analyse.proofs.analysis.Analysis.step.Goals as goal
 
 pub returns-clause-stands : goal.returns-clause-stands
 returns-clause-stands c =
     let event = seen_at c.args.time c.args.event.now in
     let new : AnalysisState = record {
-      timeline = c.apply.new.self;
-      latency = c.apply-2.new.self;
+      timeline = c.step.new.self;
+      latency = c.apply.new.self;
       names = c.note.new.self;
       packets = c.self.inside.packets + 1;
       failed = false;
@@ -24,8 +24,8 @@ returns-clause-stands c =
     AnalysisStandsFor new (events ++ event ∷ []) (given ++ ended_by old.timeline event))
     c.self.view_is
     (λ events given s. record {
-      timeline = c.in_ok-apply.ensures.stands events given s.timeline;
-      latency = c.in_ok-apply-2.ensures.stands events s.latency;
+      timeline = c.in_ok-run.ensures.stands events given s.timeline;
+      latency = c.in_ok-apply.ensures.stands events s.latency;
       names = subst (NamesStandFor c.note.new.self)
           (sym (map-append (λ (e : TimedEvent). e.event) events (event ∷ [])))
           (c.in_ok-note.ensures.stands (map (λ (e : TimedEvent). e.event) events) s.names);

@@ -72,8 +72,8 @@ pub fn frees_small()
         load.ring ≤ 2 ^ 32 → EachItem RisesLittle (latest_first items) }
 {}
 
-/// The law of a recorder's stream: of a legal journal with a start it is read to a clean end, as the
-/// packets of the stored items, whose times are those of the items where the counter never went
+/// The law of a recorder's stream: that of a legal journal with a start is read to a clean end, as
+/// the packets of the stored items, whose times are those of the items where the counter never went
 /// round between two of them. Without a start it is empty. So it is never damaged.
 pub fn reads_as_sent()
     ensures clean { (load : Load) → (items : List Item) → IsLegal load items →

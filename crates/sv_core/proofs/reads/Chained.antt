@@ -134,13 +134,17 @@ pub record AreChained (load : Load) (os : List Origin) : Type 0 where
   pub chain : Chain load os
   pub first : HasNoSyncFirst os
 
+-- the groups of some heads
+abbrev groups_by : Load → List Origin → List Origin
+groups_by load heads = flat_map (group_of load) heads
+
 pub chain-groups : (load : Load) (os : List Origin) →
     AreChained load (flat_map (group_of load) (filter is_head os))
 chain-groups load [] = record { chain = tt; first = tt }
 chain-groups load (o ∷ os) = elim (is_head o) as
     (λ b.
     is_head o ≡ b →
-    AreChained load (flat_map (group_of load) (cond b (o ∷ filter is_head os) (filter is_head os)))) [
+    AreChained load (groups_by load (cond b (o ∷ filter is_head os) (filter is_head os)))) [
       | true ↦ λ head.
           subst (AreChained load) (sym (flat_map-cons (group_of load) o (filter is_head os)))
           (let rest = chain-groups load os in

@@ -14,6 +14,7 @@ use Rattle.sv_journal.specs.Legal.{is_control, outcome_at}
 use Rattle.sv_journal.proofs.Shared.{outcome_at-control, outcome_at-off, outcome_at-after}
 use Rattle.sv_journal.proofs.Shared.{outcome_at-write}
 
+-- what became of an item, and why
 pub data Fate (load : Load) (earlier : List Item) (item : Item) : Type 0 where
   handling : is_control load item.origin ≡ true → item.outcome ≡ Handled → Fate load earlier item
   ignoring : is_control load item.origin ≡ false → is_on load earlier ≡ false →
@@ -25,35 +26,41 @@ pub data Fate (load : Load) (earlier : List Item) (item : Item) : Type 0 where
 
 pub fate : (load : Load) (earlier : List Item) (item : Item) →
     item.outcome ≡ outcome_at load earlier item → Fate load earlier item
-fate load earlier item is = elim (is_control load item.origin) as
-    (λ b. is_control load item.origin ≡ b → Fate load earlier item) [
-      | true ↦ λ control. handling control (is ∙ outcome_at-control load earlier item control)
-      | false ↦ λ control.
-          elim (is_on load earlier) as (λ b. is_on load earlier ≡ b → Fate load earlier item) [
-            | false ↦ λ off. ignoring control off (is ∙ outcome_at-off load earlier item control off)
-            | true ↦ λ on.
-                elim (is_after_refused_overflow earlier) as
-                (λ b. is_after_refused_overflow earlier ≡ b → Fate load earlier item) [
-                  | true ↦ λ lost. refusing control on (is ∙ outcome_at-after load earlier item control on lost)
-                  | false ↦ λ lost.
-                      elim (nat_lt (room_at load earlier item) (length (block_of load earlier item))) as
-                      (λ b.
-                      nat_lt (room_at load earlier item) (length (block_of load earlier item)) ≡ b →
-                      Fate load earlier item) [
-                        | true ↦ λ longer.
-                            refusing control on
-                            (is
-                            ∙ outcome_at-write load earlier item control on lost
-                            ∙ ap (λ b. cond b Refused Stored) longer)
-                        | false ↦ λ fits.
-                            storing control on lost
-                            (is
-                            ∙ outcome_at-write load earlier item control on lost
-                            ∙ ap (λ b. cond b Refused Stored) fits)
-                      ] refl
-                ] refl
-          ] refl
-    ] refl
+fate load earlier item is = by_control (is_control load item.origin) refl
+  where
+    by_room : is_control load item.origin ≡ false → is_on load earlier ≡ true →
+        is_after_refused_overflow earlier ≡ false → (longer : Bool) →
+        nat_lt (room_at load earlier item) (length (block_of load earlier item)) ≡ longer →
+        Fate load earlier item
+    by_room control on lost true longer =
+        refusing control on
+        (is
+        ∙ outcome_at-write load earlier item control on lost
+        ∙ ap (λ b. cond b Refused Stored) longer)
+    by_room control on lost false fits =
+        storing control on lost
+        (is
+        ∙ outcome_at-write load earlier item control on lost
+        ∙ ap (λ b. cond b Refused Stored) fits)
+
+    by_loss : is_control load item.origin ≡ false → is_on load earlier ≡ true → (lost : Bool) →
+        is_after_refused_overflow earlier ≡ lost → Fate load earlier item
+    by_loss control on true lost =
+        refusing control on (is ∙ outcome_at-after load earlier item control on lost)
+    by_loss control on false lost =
+        by_room control on lost
+        (nat_lt (room_at load earlier item) (length (block_of load earlier item))) refl
+
+    by_on : is_control load item.origin ≡ false → (on : Bool) → is_on load earlier ≡ on →
+        Fate load earlier item
+    by_on control false off =
+        ignoring control off (is ∙ outcome_at-off load earlier item control off)
+    by_on control true on = by_loss control on (is_after_refused_overflow earlier) refl
+
+    by_control : (control : Bool) → is_control load item.origin ≡ control → Fate load earlier item
+    by_control true control =
+        handling control (is ∙ outcome_at-control load earlier item control)
+    by_control false control = by_on control (is_on load earlier) refl
 
 pub start_off_control : (load : Load) (origin : Origin) → is_control load origin ≡ false →
     is_start load origin ≡ false

@@ -10,4 +10,3 @@ pub mod Rises
 pub mod Used
 pub mod Planned
 pub mod Sent
-pub mod Texts

@@ -18,7 +18,6 @@ ghost use Rattle.sv_core.specs.Turned.{RisesLittle};
 ghost use Rattle.sv_core.specs.Settled.{settled};
 ghost use Rattle.sv_core.specs.Start.{has_start};
 ghost use Rattle.sv_core.specs.Sent.{sent_packets};
-ghost use Rattle.sv_core.specs.Texts.{HasByteTexts};
 
 /// The law of simulations: a workload has no two journals in the order of a simulation, so the
 /// workload alone fixes every item: its place and origin, its moment, what became of it and how
@@ -77,22 +76,22 @@ pub fn frees_small()
 /// round between two of them. Without a start it is empty. So it is never damaged.
 pub fn reads_as_sent()
     ensures clean { (load : Load) → (items : List Item) → IsLegal load items →
-        IsWithinLimits load → HasByteTexts load → has_start load items ≡ true →
+        IsWithinLimits load → has_start load items ≡ true →
         Reads (stream_of load items) (sent_packets load items) Clean }
     ensures silent { (load : Load) → (items : List Item) → IsLegal load items →
-        IsWithinLimits load → HasByteTexts load → has_start load items ≡ false →
+        IsWithinLimits load → has_start load items ≡ false →
         stream_of load items ≡ [] }
     ensures events { (load : Load) → (items : List Item) →
         map (λ p. p.event) (sent_packets load items) ≡
         map (λ e. e.event) (sent_events load items) }
     ensures times { (load : Load) → (items : List Item) → IsLegal load items →
-        IsWithinLimits load → HasByteTexts load → IsCalm load items →
+        IsWithinLimits load → IsCalm load items →
         timed (sent_packets load items) ≡ sent_events load items }
     ensures alone { (load : Load) → (items : List Item) → (packets : List Packet) → (end : End) →
-        IsLegal load items → IsWithinLimits load → HasByteTexts load →
+        IsLegal load items → IsWithinLimits load →
         Reads (stream_of load items) packets end → packets ≡ sent_packets load items }
     ensures never_damaged { (load : Load) → (items : List Item) → (packets : List Packet) →
-        (end : End) → IsLegal load items → IsWithinLimits load → HasByteTexts load →
+        (end : End) → IsLegal load items → IsWithinLimits load →
         Reads (stream_of load items) packets end →
         ((has_start load items ≡ true) × (end ≡ Clean)) ⊎
         ((has_start load items ≡ false) × (end ≡ NoSync)) }

@@ -1,6 +1,7 @@
 -- Registered modules. Each has as many event identifiers as it registered, one module after the
 -- other, from 512 on (UM08027, registered modules; SEGGER_SYSVIEW_RegisterModule).
 use Rattle.std.specs.Prelude.{ℕ, ◌+◌, ◌≤◌, nat_lt, nat_le, ◌||◌, Bool, List, length, sum_by, All}
+use Rattle.sv_prim.specs.Text.{AreBytes}
 
 -- how many events a module may send, and what describes them
 pub record ModuleRow : Type 0 where
@@ -23,3 +24,4 @@ pub record AreRegistered (modules : List ModuleRow) : Type 0 where
   pub within : offset_after modules ≤ 16384
   pub some : All (λ row. 1 ≤ length row.name) modules
   pub short : All (λ row. length row.name ≤ 128) modules
+  pub bytes : All (λ row. AreBytes row.name) modules

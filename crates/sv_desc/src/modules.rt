@@ -158,6 +158,8 @@ impl Modules {
                 offset: self.next,
             });
         }
+        // A name is made of bytes, by what its type keeps.
+        let _ = name.bytes();
         let offset = self.next as u32;
         self.rows.push(Row::new(name, events));
         self.next += u64::from(events);

@@ -2,6 +2,7 @@
 use Rattle.std.specs.Prelude.{◌≡◌, ◌≤◌, Bool, true, false, not, List, [], ◌∷◌, ◌++◌, length}
 use Rattle.std.specs.Prelude.{filter_map, None, All}
 use Rattle.std.specs.List.{list_all}
+use Rattle.sv_prim.specs.Text.{AreBytes}
 use Rattle.sv_workload.specs.declared.settings.Settings.{Settings}
 use Rattle.sv_workload.specs.declared.load.Task.{Task}
 use Rattle.sv_workload.specs.declared.load.Step.{Step}
@@ -37,6 +38,7 @@ pub record IsSound (settings : Settings) (tasks : List Task) (scripts : List (Li
   pub tasks_are : All IsTask tasks
   pub tasks_hold : All HasWords tasks
   pub short_names : All (λ task. length task.name ≤ 128) tasks
+  pub byte_names : All (λ task. AreBytes task.name) tasks
   pub few_scripts : length scripts ≤ most_writers
   pub few_turns : length schedule ≤ most_steps
   pub turns_are : All (IsTurn (length scripts)) schedule

@@ -2,6 +2,7 @@
 use Rattle.std.specs.Prelude.{◌≡◌, ℕ, ◌+◌, ◌*◌, ◌^◌, ◌<◌, ◌≤◌, [], ◌∷◌, length, sum_by, Bool, true}
 use Rattle.std.specs.Prelude.{false, All}
 use Rattle.sv_prim.specs.Number.{AreWords}
+use Rattle.sv_prim.specs.Text.{AreBytes}
 use Rattle.sv_packet.specs.Spelling.{spelling_of, HasRange, IsRecordable}
 use Rattle.sv_workload.specs.declared.load.Act.{Act}
 use Rattle.sv_workload.specs.declared.load.Act.TheVariants.{Event, Start, Stop}
@@ -77,6 +78,12 @@ pub record HasShortTexts (load : Load) : Type 0 where
   pub tasks : All (λ task. length task.name ≤ 128) load.tasks
   pub modules : All (λ row. length row.name ≤ 128) load.modules
 
+-- each line, and each name of a task or module, is made of bytes, as a packet's texts are
+pub record HasByteTexts (load : Load) : Type 0 where
+  pub lines : All AreBytes load.lines
+  pub tasks : All (λ task. AreBytes task.name) load.tasks
+  pub modules : All (λ row. AreBytes row.name) load.modules
+
 -- a task has a name, of at most 32 bytes
 abbrev pub IsTask : Task → Type 0
 IsTask task = (1 ≤ length task.name) × (length task.name ≤ 32)
@@ -118,6 +125,7 @@ pub record IsWithinLimits (load : Load) : Type 0 where
   pub advances : All (λ script. All (λ s. s.advance ≤ most_ticks) script) load.scripts
   pub acts : All (λ script. All (λ s. IsStepAct s.act) script) load.scripts
   pub texts : HasShortTexts load
+  pub bytes : HasByteTexts load
   pub line_texts : All (λ text. 1 ≤ length text) load.lines
   pub task_names : All IsTask load.tasks
   pub task_words : All HasWords load.tasks

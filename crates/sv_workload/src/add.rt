@@ -34,6 +34,8 @@ impl Draft {
         requires words { HasWords task }
         ensures { OnOk result (self.new ≡ record self.old { tasks = self.old.tasks ++ task ∷ [] }) }
     {
+        // A name is made of bytes, by what its type keeps.
+        let _ = task.name.bytes();
         if self.tasks.push(task).is_err() {
             return Err(NoMemory);
         }

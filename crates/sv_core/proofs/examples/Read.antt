@@ -26,7 +26,6 @@ use Rattle.sv_journal.specs.Stream.{stream_of, sent_events}
 use Rattle.sv_journal.proofs.Shared.{load_of, refused_items, refused_legal, refused_load}
 use Rattle.sv_core.specs.Sent.{sent_packets}
 use Rattle.sv_core.specs.Start.{has_start}
-use Rattle.sv_core.specs.Texts.{HasByteTexts}
 use Rattle.sv_core.proofs.examples.Short.{Same, at, mark, start}
 use Rattle.sv_core.proofs.reads.Streams.{read_as}
 
@@ -100,6 +99,11 @@ limits = record {
     tasks = All-nil (λ (task : Task). length task.name ≤ 128);
     modules = All-nil (λ (row : ModuleRow). length row.name ≤ 128);
   };
+  bytes = record {
+    lines = All-nil AreBytes;
+    tasks = All-nil (λ (task : Task). AreBytes task.name);
+    modules = All-nil (λ (row : ModuleRow). AreBytes row.name);
+  };
   line_texts = All-nil (λ (text : List ℕ). 1 ≤ length text);
   task_names = All-nil IsTask;
   task_words = All-nil HasWords;
@@ -109,16 +113,9 @@ limits = record {
   schedule = All-nil (IsTurn 1);
 }
 
-texts : HasByteTexts refused_load
-texts = record {
-  lines = All-nil AreBytes;
-  tasks = All-nil (λ (task : Task). AreBytes task.name);
-  modules = All-nil (λ (row : ModuleRow). AreBytes row.name);
-}
-
 -- so by the law its stream is read to a clean end
 read : Reads (stream_of refused_load refused_items) (sent_packets refused_load refused_items) Clean
-read = read_as refused_load refused_items refused_legal limits texts begun
+read = read_as refused_load refused_items refused_legal limits begun
 
 -- A MARK A WHOLE ROUND OF THE COUNTER LATER
 

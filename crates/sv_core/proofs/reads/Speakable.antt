@@ -32,7 +32,6 @@ use Rattle.sv_journal.specs.Items.{is_sync, event_of, pending_at, act_event, eve
 use Rattle.sv_journal.specs.Items.{system_time, micros_at, task_info, stack_info, module_desc}
 use Rattle.sv_journal.specs.Legal.{EachItem, IsLegal, IsCount}
 use Rattle.sv_need.proofs.Shared.{few_items}
-use Rattle.sv_core.specs.Texts.{HasByteTexts}
 use Rattle.sv_core.proofs.reads.Texts.{IsSpeakable, IsSpeakableText, IsSpeakableTask, speakable}
 use Rattle.sv_core.proofs.reads.Placed.{IsPlaced, placed}
 
@@ -276,7 +275,7 @@ each-spellable load (i ∷ earlier) l s few each = (
 )
 
 pub spellable : (load : Load) (items : List Item) → IsLegal load items → IsWithinLimits load →
-    HasByteTexts load → AreSpellable load items
-spellable load items legal l texts =
-    each-spellable load (latest_first items) l (speakable load l texts)
+    AreSpellable load items
+spellable load items legal l =
+    each-spellable load (latest_first items) l (speakable load l)
     (omega (arith, few_items load items legal l, length-reverse items)) (placed load items legal)

@@ -14,27 +14,26 @@ use Rattle.sv_journal.specs.Legal.{IsLegal}
 use Rattle.sv_journal.specs.Stream.{stream_of, sent_events, IsCalm}
 use Rattle.sv_core.specs.Sent.{sent_packets}
 use Rattle.sv_core.specs.Start.{has_start}
-use Rattle.sv_core.specs.Texts.{HasByteTexts}
 use Rattle.sv_core.proofs.reads.Reading.{nothing_sent, reads_sent, silent}
 use Rattle.sv_core.proofs.reads.Speakable.{spellable}
 use Rattle.sv_core.proofs.reads.Timed.{times_sent}
 
 pub read_as : (load : Load) (items : List Item) → IsLegal load items → IsWithinLimits load →
-    HasByteTexts load → has_start load items ≡ true →
+    has_start load items ≡ true →
     Reads (stream_of load items) (sent_packets load items) Clean
-read_as load items legal l texts start =
-    reads_sent load items legal l.ring_least (spellable load items legal l texts) start
+read_as load items legal l start =
+    reads_sent load items legal l.ring_least (spellable load items legal l) start
 
 pub silence : (load : Load) (items : List Item) → IsLegal load items → IsWithinLimits load →
-    HasByteTexts load → has_start load items ≡ false → stream_of load items ≡ []
-silence load items legal l texts none =
-    silent load items legal l.ring_least (spellable load items legal l texts) none
+    has_start load items ≡ false → stream_of load items ≡ []
+silence load items legal l none =
+    silent load items legal l.ring_least (spellable load items legal l) none
 
 pub times_as : (load : Load) (items : List Item) → IsLegal load items → IsWithinLimits load →
-    HasByteTexts load → IsCalm load items →
+    IsCalm load items →
     timed (sent_packets load items) ≡ sent_events load items
-times_as load items legal l texts calm =
-    times_sent load items legal l.ring_least (spellable load items legal l texts) calm
+times_as load items legal l calm =
+    times_sent load items legal l.ring_least (spellable load items legal l) calm
 
 nothing : Reads [] [] NoSync
 nothing = inl (refl, refl, refl)
@@ -50,33 +49,33 @@ record IsReadAs (load : Load) (items : List Item) (packets : List Packet) (end :
   ends : EndsBy load items end
 
 both : (load : Load) (items : List Item) (packets : List Packet) (end : End) →
-    IsLegal load items → IsWithinLimits load → HasByteTexts load →
+    IsLegal load items → IsWithinLimits load →
     Reads (stream_of load items) packets end → IsReadAs load items packets end
-both load items packets end legal l texts reads = by (has_start load items) refl
+both load items packets end legal l reads = by (has_start load items) refl
   where
     by : (b : Bool) → has_start load items ≡ b → IsReadAs load items packets end
     by true start =
         let one = one_reading (stream_of load items) packets (sent_packets load items) end Clean
-        reads (read_as load items legal l texts start) in
+        reads (read_as load items legal l start) in
         record { packets_are = one.0; ends = inl (start, one.1) }
     by false none =
         let empty : Reads [] packets end = subst (λ (bytes : List ℕ). Reads bytes packets end)
-        (silence load items legal l texts none) reads in
+        (silence load items legal l none) reads in
         let one = one_reading [] packets [] end NoSync empty nothing in
         record {
           packets_are = one.0 ∙ sym (nothing_sent load items legal l.ring_least
-              (spellable load items legal l texts) none);
+              (spellable load items legal l) none);
           ends = inr (none, one.1);
         }
 
 pub packets_as : (load : Load) (items : List Item) (packets : List Packet) (end : End) →
-    IsLegal load items → IsWithinLimits load → HasByteTexts load →
+    IsLegal load items → IsWithinLimits load →
     Reads (stream_of load items) packets end → packets ≡ sent_packets load items
-packets_as load items packets end legal l texts reads =
-    (both load items packets end legal l texts reads).packets_are
+packets_as load items packets end legal l reads =
+    (both load items packets end legal l reads).packets_are
 
 pub ends_as : (load : Load) (items : List Item) (packets : List Packet) (end : End) →
-    IsLegal load items → IsWithinLimits load → HasByteTexts load →
+    IsLegal load items → IsWithinLimits load →
     Reads (stream_of load items) packets end → EndsBy load items end
-ends_as load items packets end legal l texts reads =
-    (both load items packets end legal l texts reads).ends
+ends_as load items packets end legal l reads =
+    (both load items packets end legal l reads).ends

@@ -8,7 +8,6 @@ use Rattle.sv_workload.specs.declared.load.Task.{Task}
 use Rattle.sv_workload.specs.declared.load.ModuleRow.{ModuleRow}
 use Rattle.sv_workload.specs.Load.{Load, offset_after}
 use Rattle.sv_workload.specs.Need.{HasWords, IsWithinLimits}
-use Rattle.sv_core.specs.Texts.{HasByteTexts}
 
 -- a text that a packet can hold
 abbrev pub IsSpeakableText : List ℕ → Type 0
@@ -47,17 +46,17 @@ fewer (suc index) (row ∷ rows) =
       fewer index rows,
     )
 
-pub speakable : (load : Load) → IsWithinLimits load → HasByteTexts load → IsSpeakable load
-speakable load l texts = record {
+pub speakable : (load : Load) → IsWithinLimits load → IsSpeakable load
+speakable load l = record {
   lines = all-both AreBytes (λ text. length text ≤ 128) IsSpeakableText short load.lines
-      texts.lines l.texts.lines;
+      l.bytes.lines l.texts.lines;
   tasks = all-both HasWords (λ task. IsSpeakableText task.name) IsSpeakableTask
       (λ task words name. (words, name)) load.tasks l.task_words
       (all-both (λ task. AreBytes task.name) (λ task. length task.name ≤ 128)
-      (λ task. IsSpeakableText task.name) (λ task. short task.name) load.tasks texts.tasks
+      (λ task. IsSpeakableText task.name) (λ task. short task.name) load.tasks l.bytes.tasks
       l.texts.tasks);
   modules = all-both (λ row. AreBytes row.name) (λ row. length row.name ≤ 128)
-      (λ row. IsSpeakableText row.name) (λ row. short row.name) load.modules texts.modules
+      (λ row. IsSpeakableText row.name) (λ row. short row.name) load.modules l.bytes.modules
       l.texts.modules;
   offsets = λ index. omega (arith, fewer index load.modules, l.module_events);
 }

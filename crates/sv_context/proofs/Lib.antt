@@ -1,3 +1,4 @@
+pub mod Shared
 pub mod Examples
 pub mod Short
 pub mod Frames

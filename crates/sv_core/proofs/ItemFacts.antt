@@ -45,7 +45,7 @@ pub ticks-cons : (load : Load) (i : Item) (earlier : List Item) →
     ticks_in load (i ∷ earlier) ≡ ticks_of load i.origin + ticks_in load earlier
 ticks-cons load i earlier = sum_by-cons (λ (j : Item). ticks_of load j.origin) i earlier
 
-no_ticks : (load : Load) (o : Origin) → is_overflow o ≡ true → ticks_of load o ≡ 0
+pub no_ticks : (load : Load) (o : Origin) → is_overflow o ≡ true → ticks_of load o ≡ 0
 no_ticks load (Call writer step) h = cc
 no_ticks load Sync h = refl
 no_ticks load (Reply kind index) h = refl

@@ -1,3 +1,4 @@
+pub mod Shared
 pub mod examples
 pub mod Counts
 pub mod JournalParts

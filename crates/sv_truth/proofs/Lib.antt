@@ -1,0 +1,12 @@
+pub mod Facts
+pub mod Agreeing
+pub mod Telling
+pub mod Intact
+pub mod Clear
+pub mod Classes
+pub mod Quiet
+pub mod Contexts
+pub mod Segments
+pub mod Fronts
+pub mod Naming
+pub mod examples

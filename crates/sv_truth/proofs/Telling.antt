@@ -9,7 +9,8 @@ use Rattle.sv_packet.specs.Events.{is_break}
 use Rattle.sv_workload.specs.declared.load.Act.{Act}
 use Rattle.sv_workload.specs.declared.load.Act.TheVariants as acts
 use Rattle.sv_workload.specs.declared.load.Task.{Task}
-use Rattle.sv_workload.specs.declared.load.ModuleRow.{ModuleRow}
+use Rattle.sv_desc.specs.Modules.{ModuleRow}
+use Rattle.sv_desc.specs.Says.{micros_at}
 use Rattle.sv_workload.specs.Load.{Load, act_of, is_break as load_break, period}
 use Rattle.sv_workload.specs.Need.{is_start_act, is_stop_act, IsWithinLimits}
 use Rattle.sv_journal.specs.declared.journal.Kind.{Kind}
@@ -21,7 +22,7 @@ use Rattle.sv_journal.specs.declared.journal.Outcome.TheVariants.{Refused}
 use Rattle.sv_journal.specs.declared.journal.Item.{Item}
 use Rattle.sv_journal.specs.Items.{is_overflow, is_stop_reply, holds_packet, is_packet, act_event}
 use Rattle.sv_journal.specs.Items.{event_at, reply_event, system_time, task_info, stack_info}
-use Rattle.sv_journal.specs.Items.{module_desc, micros_at}
+use Rattle.sv_journal.specs.Items.{module_desc}
 use Rattle.sv_journal.specs.Legal.{is_control}
 use Rattle.sv_core.proofs.Shared.{act_spoken, clash}
 use Rattle.sv_truth.specs.Truth.{call_event, recorded_by}
@@ -53,7 +54,7 @@ idle_time : (load : Load) (moment : ℕ) → IsIdle (system_time load moment)
 idle_time load moment =
     elim load.timed as
     (λ b. IsIdle
-    (cond b (events.SystimeUs (micros_at load moment % 2 ^ 32) (micros_at load moment / 2 ^ 32))
+    (cond b (events.SystimeUs (micros_at load.clock moment % 2 ^ 32) (micros_at load.clock moment / 2 ^ 32))
     (events.SystimeCycles (moment % period load)))) [
   | true ↦ record { goes_on = refl; no_role = refl; no_task = refl }
   | false ↦ record { goes_on = refl; no_role = refl; no_task = refl }

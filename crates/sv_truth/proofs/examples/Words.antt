@@ -8,7 +8,7 @@ use Rattle.sv_packet.specs.declared.event.TimedEvent.{TimedEvent}
 use Rattle.sv_workload.specs.declared.load.Act.TheVariants as acts
 use Rattle.sv_workload.specs.declared.load.Step.{Step}
 use Rattle.sv_workload.specs.declared.load.Task.{Task}
-use Rattle.sv_workload.specs.declared.load.ModuleRow.{ModuleRow}
+use Rattle.sv_desc.specs.Modules.{ModuleRow}
 use Rattle.sv_workload.specs.Limits.{most_starts, most_steps, most_ticks}
 use Rattle.sv_workload.specs.Need.{HasWords, IsAsked, IsStepAct, IsTask, IsTurn, IsWithinLimits}
 use Rattle.sv_workload.specs.Need.{starts_in, steps_in}

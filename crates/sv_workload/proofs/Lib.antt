@@ -25,3 +25,4 @@ pub mod Growing
 pub mod Rooms
 pub mod Walking
 pub mod Turns
+pub mod Generating

@@ -2,3 +2,4 @@
 pub mod Faults
 pub mod LineFaults
 pub mod Loads
+pub mod Generated

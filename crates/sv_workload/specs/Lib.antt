@@ -17,3 +17,4 @@ pub mod Settings
 pub mod Scripts
 pub mod Draft
 pub mod Checking
+pub mod Generated

@@ -22,7 +22,7 @@ use sv_prim::{Bytes, NoMemory};
 
 impl Draft {
     /// One more setting is told.
-    fn add_setting(&mut self, word: SetupWord, n: u32)
+    pub fn add_setting(&mut self, word: SetupWord, n: u32)
         requires { list_all (λ range. is_in range n) (form_of (Setup word)).numbers ≡ true }
         ensures { self.new ≡ record self.old { settings = tell word n self.old.settings } }
     {
@@ -79,7 +79,7 @@ impl Draft {
     }
 
     /// One more task, after the others.
-    fn add_task(&mut self, task: Task) -> Result<(), NoMemory>
+    pub fn add_task(&mut self, task: Task) -> Result<(), NoMemory>
         requires few { length self.old.tasks < 32 }
         requires name { IsTask task }
         requires words { HasWords task }
@@ -93,7 +93,7 @@ impl Draft {
     }
 
     /// One more writer, without a step so far.
-    fn add_writer(&mut self, alloc: Global) -> Result<(), NoMemory>
+    pub fn add_writer(&mut self, alloc: Global) -> Result<(), NoMemory>
         requires { length self.old.scripts < 16 }
         ensures { OnOk result
             (self.new ≡ record self.old { scripts = self.old.scripts ++ [] ∷ [] }) }
@@ -103,7 +103,7 @@ impl Draft {
 
     /// One more step for the writer that was named last.
     #[inline(always)]
-    fn add_step(&mut self, step: Step) -> Result<(), NoMemory>
+    pub fn add_step(&mut self, step: Step) -> Result<(), NoMemory>
         requires writer { 0 < length self.old.scripts }
         requires steps { over_scripts (λ s. 1) self.old.scripts < most_steps }
         requires starts { is_start_act step.act ≡ true
@@ -117,14 +117,14 @@ impl Draft {
     }
 
     /// There is a schedule from now on.
-    fn add_schedule(&mut self)
+    pub fn add_schedule(&mut self)
         ensures { self.new ≡ record self.old { scheduled = true } }
     {
         self.scheduled = true;
     }
 
     /// One more turn, after the others.
-    fn add_turn(&mut self, action: Action) -> Result<(), NoMemory>
+    pub fn add_turn(&mut self, action: Action) -> Result<(), NoMemory>
         requires few { length self.old.schedule < most_steps }
         requires turn { IsTurn (length self.old.scripts) action }
         ensures { OnOk result

@@ -5,6 +5,8 @@
 //! `read_line`. It is checked for itself, and then against the `draft` of the lines before it
 //! (`check`). A line without a fault makes a step, a task, a command or a turn (`parts`), which
 //! the draft takes up (`add`).
+//!
+//! `generated` makes a workload of any size from a number (`generator`).
 #![tactic(auto)]
 
 mod acts;
@@ -16,6 +18,7 @@ mod draft;
 mod fault;
 mod fields;
 mod form;
+mod generator;
 mod keyword;
 mod laws;
 mod limits;
@@ -33,9 +36,12 @@ mod text;
 mod words;
 
 pub use fault::{LineFault, WorkFault};
+pub use generator::generated;
 pub use laws::the_first_fault;
 pub use load::{Act, Action, Command, Need, Step, Task, Workload};
 pub use text::parse;
 
+#[cfg(test)]
+mod generator_tests;
 #[cfg(test)]
 mod tests;

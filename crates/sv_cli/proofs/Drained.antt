@@ -1,6 +1,6 @@
 -- The events that a decoder gives, one after another, and what is gathered of them.
-use Rattle.std.proofs.Common.{◌≡◌, ℕ, ◌+◌, ◌^◌, ◌<◌, ◌≤◌, true, false, List, [], ◌∷◌, ◌++◌, length}
-use Rattle.std.proofs.Common.{take, Option, Result, Ok, Err, refl, sym, ap, ◌∙◌, subst, arith}
+use Rattle.std.proofs.Common.{◌≡◌, ℕ, ◌+◌, ◌*◌, ◌^◌, ◌<◌, ◌≤◌, true, false, List, [], ◌∷◌, ◌++◌}
+use Rattle.std.proofs.Common.{length, take, Option, Result, Ok, Err, refl, sym, ap, ◌∙◌, subst, arith}
 use Rattle.std.proofs.Common.{append_assoc, append-nil, length-append}
 use Rattle.std.specs.Prelude.{is_ok, is_err, OnOk}
 use Rattle.std.specs.Io.KnownBytes.{Consumes, IsAtEnd}
@@ -38,7 +38,7 @@ module _ {V : Type 0} (text : Text) (shown : V → List TimedEvent → Type 0) w
       → ((earlier : List TimedEvent) → shown between earlier → shown now (earlier ++ event ∷ []))
       → ((earlier : List TimedEvent) → shown between earlier → lines ≡ lines_between ++ text.line
       earlier event)
-      → length new.held < length mid.held → pushed new ≡ pushed mid
+      → length new.held + 2 ≤ length mid.held → pushed new ≡ pushed mid
       → HasGiven text shown old new before now lines_before lines (events ++ event ∷ [])
   given-more old mid new before between now lines_before lines_between lines events event g stands
       viewed line fewer same = record {
@@ -74,16 +74,16 @@ module _ {V : Type 0} (text : Text) (shown : V → List TimedEvent → Type 0) w
     pushed_same = same ∙ g.pushed_same;
   }
 
-  -- the next event finds fewer than 2^33 before it, and none after its time
+  -- the next event finds fewer than 2^32 before it, and none after its time
   pub room_for_next : (old mid : Decoding) (before now : V) (lines_before lines : List ℕ)
       (events : List TimedEvent) (time : ℕ)
       → HasGiven text shown old mid before now lines_before lines events
       → (input : List ℕ) (given : List TimedEvent) → StandsFor old input given
-      → shown before given → length given + length old.held ≤ 2 ^ 33
+      → shown before given → 2 * length given + length old.held ≤ 2 ^ 33
       → ((input : List ℕ) (given : List TimedEvent) → StandsFor mid input given
       → last_time given ≤ time)
       → 0 < length mid.held
-      → (earlier : List TimedEvent) × shown now earlier × (length earlier < 2 ^ 33)
+      → (earlier : List TimedEvent) × shown now earlier × (length earlier < 2 ^ 32)
       × (last_time earlier ≤ time)
   room_for_next old mid before now lines_before lines events time g input given stands s few
       order some = (

@@ -8,3 +8,4 @@ pub mod Ended
 pub mod Files
 pub mod SameWords
 pub mod Timelines
+pub mod Reported

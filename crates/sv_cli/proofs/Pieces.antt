@@ -82,7 +82,7 @@ module _ {V : Type 0} (text : Text) (shown : V → List TimedEvent → Type 0)
         (omega (arith, length-append input bytes, fewer), cut_off)
 
     -- more bytes came than are taken
-    cut_long : (left_now : Option (List ℕ)) (lost : IsLost left left_now) → most_bytes < scan.total
+    cut_long : (left_now : Option (List ℕ)) (lost : IsLost piece_size left left_now) → most_bytes < scan.total
         + length lost.piece → IsScanEnd text left0 left_now out0 out (Err cuts.TooLong)
     cut_long left_now lost more =
         comes_to (Err cuts.TooLong) (input ++ lost.piece) input
@@ -94,7 +94,7 @@ module _ {V : Type 0} (text : Text) (shown : V → List TimedEvent → Type 0)
         )
 
     -- the decoder has no room for a piece
-    cut_full : (left_now : Option (List ℕ)) → IsLost left left_now → IsScanEnd text left0 left_now
+    cut_full : (left_now : Option (List ℕ)) → IsLost piece_size left left_now → IsScanEnd text left0 left_now
         out0 out (Err cuts.NoMemory)
     cut_full left_now lost =
         let r = reading input b.scanned.bytes in
@@ -107,7 +107,7 @@ module _ {V : Type 0} (text : Text) (shown : V → List TimedEvent → Type 0)
         (grown.1 ∙ ap (λ (es : List TimedEvent). es ++ grown.0)
         (sym (b.scanned.all r.0 r.1 r.2))))))
 
-    pub cut_unfed : (left_now : Option (List ℕ)) (cut : Cut) → IsUnfed left left_now scan.total cut
+    pub cut_unfed : (left_now : Option (List ℕ)) (cut : Cut) → IsUnfed piece_size left left_now scan.total cut
         → IsScanEnd text left0 left_now out0 out (Err cut)
     cut_unfed left_now cuts.Unread unfed = cut_unread left_now unfed
     cut_unfed left_now cuts.TooLong unfed = cut_long left_now unfed.0 unfed.1

@@ -1,110 +1,136 @@
 -- The words of a command say which one it is: those of two commands are the same only where what
 -- their answers mean is.
-use Rattle.std.proofs.Common.{◌≡◌, ℕ, zero, suc, Bool, false, List, [], ◌∷◌, Option, Some, None}
+use Rattle.std.proofs.Common.{◌≡◌, ℕ, Bool, false, List, [], ◌∷◌, Option, Some, None}
 use Rattle.std.proofs.Common.{refl, sym, ap, ◌∙◌, subst}
-use Rattle.std.specs.Prelude.{position, codes, IfSome}
+use Rattle.std.specs.Prelude.{codes, IfSome, if◌then◌else◌}
 use Rattle.std.specs.Str.{bytes_eq}
+use Rattle.sv_workload.specs.Load.{Load}
 use Rattle.sv_journal.specs.declared.journal.Item.{Item}
 use Rattle.sv_cli.specs.declared.command.Command.{Command}
-use Rattle.sv_cli.specs.declared.command.Command.TheVariants.{Events, Check, Timeline, Record}
+use Rattle.sv_cli.specs.declared.command.Command.TheVariants.{Events, Check, Timeline, Report}
+use Rattle.sv_cli.specs.declared.command.Command.TheVariants.{Simulate, Record}
 use Rattle.sv_cli.specs.declared.status.Status.{Status}
 use Rattle.sv_cli.specs.Answer.{IsShown}
 use Rattle.sv_cli.specs.AnswersTo.{AnswersTo}
 use Rattle.sv_cli.specs.Command.{words_of, file_of, is_unwritten}
 use Rattle.sv_cli.specs.Devices.{HasTaken, OfFile}
-use Rattle.sv_cli.specs.Recorded.{IsRecorded, is_unwritten as is_recording_unwritten}
+use Rattle.sv_cli.specs.Recorded.{IsRecorded, IsRecordingText, IsReportText}
+use Rattle.sv_cli.specs.Recorded.{is_unwritten as is_run_unwritten}
+use Rattle.sv_cli.specs.Text.{Text}
 use Rattle.sv_cli.specs.commands.Events.{events_text}
 use Rattle.sv_cli.specs.commands.Check.{check_text}
 use Rattle.sv_cli.specs.commands.Timeline.{timeline_text}
+use Rattle.sv_cli.specs.commands.Report.{report_text}
 
--- the place of a command in the table of them
-abbrev place : Command → Option ℕ
-place (Events file) = Some 0
-place (Check file) = Some 1
-place (Timeline file) = Some 2
-place (Record file) = Some 3
+-- what a command is about: the text of a recording, or what it makes of a journal
+data Kind : Type 0 where
+  shows : Text → Kind
+  simulates : Kind
+  records : Kind
+
+abbrev kind : Command → Option Kind
+kind (Events file) = Some (shows events_text)
+kind (Check file) = Some (shows check_text)
+kind (Timeline file) = Some (shows timeline_text)
+kind (Report file) = Some (shows report_text)
+kind (Simulate file) = Some simulates
+kind (Record file) = Some records
 
 -- the same, by the words
-abbrev place_by : List (List ℕ) → Option ℕ
-place_by [] = None
-place_by (word ∷ rest) =
-    position (λ w. bytes_eq w word)
-    (codes "events" ∷ codes "check" ∷ codes "timeline" ∷ codes "record" ∷ [])
+abbrev kind_by : List (List ℕ) → Option Kind
+kind_by [] = None
+kind_by (word ∷ rest) =
+    if bytes_eq (codes "events") word then Some (shows events_text)
+    else if bytes_eq (codes "check") word then Some (shows check_text)
+    else if bytes_eq (codes "timeline") word then Some (shows timeline_text)
+    else if bytes_eq (codes "report") word then Some (shows report_text)
+    else if bytes_eq (codes "simulate") word then Some simulates
+    else if bytes_eq (codes "record") word then Some records
+    else None
 
-place_is : (c : Command) → place_by (words_of c) ≡ place c
-place_is (Events file) = refl
-place_is (Check file) = refl
-place_is (Timeline file) = refl
-place_is (Record file) = refl
+kind_is : (c : Command) → kind_by (words_of c) ≡ kind c
+kind_is (Events file) = refl
+kind_is (Check file) = refl
+kind_is (Timeline file) = refl
+kind_is (Report file) = refl
+kind_is (Simulate file) = refl
+kind_is (Record file) = refl
 
-same_place : (a b : Command) → words_of a ≡ words_of b → place a ≡ place b
-same_place a b e = sym (place_is a) ∙ ap place_by e ∙ place_is b
+same_kind : (a b : Command) → words_of a ≡ words_of b → kind a ≡ kind b
+same_kind a b e = sym (kind_is a) ∙ ap kind_by e ∙ kind_is b
 
--- what an answer means, by the place
-abbrev Means : Option ℕ → List ℕ → List ℕ → Option (List ℕ) → Option (List ℕ) → List Item → Status
-    → Type 0
-Means (Some zero) file taken old new items status =
-    IsShown events_text taken (taken ≡ file) old new status × (items ≡ [])
-Means (Some (suc zero)) file taken old new items status =
-    IsShown check_text taken (taken ≡ file) old new status × (items ≡ [])
-Means (Some (suc (suc zero))) file taken old new items status =
-    IsShown timeline_text taken (taken ≡ file) old new status × (items ≡ [])
-Means (Some (suc (suc (suc n)))) file taken old new items status =
-    IsRecorded file taken old new items status
+-- what an answer means, by the kind
+abbrev Means : Option Kind → List ℕ → List ℕ → Option (List ℕ) → Option (List ℕ) → List Item
+    → Status → Type 0
+Means (Some (shows text)) file taken old new items status =
+    IsShown text taken (taken ≡ file) old new status × (items ≡ [])
+Means (Some simulates) file taken old new items status =
+    IsRecorded IsReportText file taken old new items status
+Means (Some records) file taken old new items status =
+    IsRecorded IsRecordingText file taken old new items status
 Means None file taken old new items status = ⊥
 
 module _ (file taken : List ℕ) (old new : Option (List ℕ)) (items : List Item)
     (status : Status) where
-  means : (c : Command) → AnswersTo c file taken old new items status → Means (place c) file taken
+  means : (c : Command) → AnswersTo c file taken old new items status → Means (kind c) file taken
       old new items status
   means (Events name) a = a
   means (Check name) a = a
   means (Timeline name) a = a
+  means (Report name) a = a
+  means (Simulate name) a = a
   means (Record name) a = a
 
-  meant : (c : Command) → Means (place c) file taken old new items status → AnswersTo c file taken
+  meant : (c : Command) → Means (kind c) file taken old new items status → AnswersTo c file taken
       old new items status
   meant (Events name) a = a
   meant (Check name) a = a
   meant (Timeline name) a = a
+  meant (Report name) a = a
+  meant (Simulate name) a = a
   meant (Record name) a = a
 
   pub same_answer : (a b : Command) → words_of a ≡ words_of b → AnswersTo a file taken old new items
       status → AnswersTo b file taken old new items status
   same_answer a b e x = meant b
-      (subst (λ (p : Option ℕ). Means p file taken old new items status) (same_place a b e)
+      (subst (λ (k : Option Kind). Means k file taken old new items status) (same_kind a b e)
       (means a x))
 
--- the second word
-abbrev second : List (List ℕ) → List ℕ
-second [] = []
-second (word ∷ []) = []
-second (word ∷ file ∷ rest) = file
+-- the last word
+abbrev last_word : List (List ℕ) → List ℕ
+last_word [] = []
+last_word (word ∷ []) = word
+last_word (word ∷ next ∷ rest) = last_word (next ∷ rest)
 
-file_is : (c : Command) → second (words_of c) ≡ file_of c
+file_is : (c : Command) → last_word (words_of c) ≡ file_of c
 file_is (Events file) = refl
 file_is (Check file) = refl
 file_is (Timeline file) = refl
+file_is (Report file) = refl
+file_is (Simulate file) = refl
 file_is (Record file) = refl
 
 pub same_file : (a b : Command) → words_of a ≡ words_of b → file_of a ≡ file_of b
-same_file a b e = sym (file_is a) ∙ ap second e ∙ file_is b
+same_file a b e = sym (file_is a) ∙ ap last_word e ∙ file_is b
 
-abbrev unwritten_at : Option ℕ → Status → Bool
-unwritten_at (Some (suc (suc (suc n)))) status = is_recording_unwritten status
-unwritten_at other status = false
+abbrev unwritten_of : Option Kind → Status → Bool
+unwritten_of (Some simulates) status = is_run_unwritten status
+unwritten_of (Some records) status = is_run_unwritten status
+unwritten_of other status = false
 
 unwritten_is : (c : Command) (status : Status)
-    → unwritten_at (place c) status ≡ is_unwritten c status
+    → unwritten_of (kind c) status ≡ is_unwritten c status
 unwritten_is (Events name) status = refl
 unwritten_is (Check name) status = refl
 unwritten_is (Timeline name) status = refl
+unwritten_is (Report name) status = refl
+unwritten_is (Simulate name) status = refl
 unwritten_is (Record name) status = refl
 
 pub same_unwritten : (a b : Command) (status : Status) → words_of a ≡ words_of b
     → is_unwritten a status ≡ is_unwritten b status
 same_unwritten a b status e =
-    sym (unwritten_is a status) ∙ ap (λ (p : Option ℕ). unwritten_at p status) (same_place a b e) ∙
+    sym (unwritten_is a status) ∙ ap (λ (k : Option Kind). unwritten_of k status) (same_kind a b e) ∙
     unwritten_is b status
 
 -- an answer of the command that was found is one of the command that the words name

@@ -1,14 +1,21 @@
--- What `record` makes of a workload's text, and what it answers where a device fails.
+-- What `record` and `simulate` make of a workload's text, and what they answer where a device fails.
 use Rattle.std.specs.Prelude.{◌≡◌, ℕ, ◌^◌, ◌<◌, ◌≤◌, Bool, true, false, List, [], ◌++◌, length}
 use Rattle.std.specs.Prelude.{Option, Some, codes}
 use Rattle.std.specs.Io.KnownBytes.{Appends}
 use Rattle.sv_base.specs.Streams.{AppendsPart}
+use Rattle.sv_packet.specs.declared.event.Packet.{Packet}
+use Rattle.sv_stream.specs.declared.end.End.{End}
+use Rattle.sv_stream.specs.declared.end.End.TheVariants as ends
+use Rattle.sv_stream.specs.Reads.{Reads}
+use Rattle.sv_analyse.specs.Report.{report_of}
+use Rattle.sv_report.specs.ReportText.{text_of}
 use Rattle.sv_workload.specs.Load.{Load}
 use Rattle.sv_workload.specs.Grammar.{first_reason, IsWorkload}
 use Rattle.sv_journal.specs.declared.journal.Item.{Item}
-use Rattle.sv_journal.specs.Stream.{stream_of}
+use Rattle.sv_journal.specs.Stream.{stream_of, IsCalm}
 use Rattle.sv_core.specs.Simulated.{IsSimulated}
 use Rattle.sv_core.specs.Start.{has_start}
+use Rattle.sv_truth.specs.Truth.{TellsContexts, TellsClasses}
 use Rattle.sv_cli.specs.declared.simulated.Unsimulated.{Unsimulated}
 use Rattle.sv_cli.specs.declared.simulated.Unsimulated.TheVariants as faults
 use Rattle.sv_cli.specs.declared.status.Status.{Status}
@@ -24,55 +31,78 @@ most_of_workload = 2 ^ 26
 abbrev pub header : List ℕ
 header = codes "; sysview recording\n"
 
--- what is written of a journal
-abbrev pub recording_text : Load → List Item → List ℕ
-recording_text load items = header ++ stream_of load items
+-- each context and each wait that the stream of a journal names is the one by all calls, the lost
+-- ones included, where stored packets are less than a period of the counter apart
+abbrev pub NamesTruly : Load → List Item → Type 0
+NamesTruly load items =
+    IsCalm load items → TellsContexts load items × TellsClasses load items
 
 -- the text says this workload, and the journal is that of its simulation
 pub record IsRun (text : List ℕ) (load : Load) (items : List Item) : Type 0 where
   pub says : IsWorkload text load
   pub simulated : IsSimulated load items
+  pub names : NamesTruly load items
 
--- the whole recording of a run is written, which has a start or not
-pub record IsRecording (text : List ℕ) (old new : Option (List ℕ)) (items : List Item)
-    (started : Bool) : Type 0 where
+-- what `record` writes of a journal
+abbrev pub IsRecordingText : Load → List Item → List ℕ → Type 0
+IsRecordingText load items made = made ≡ header ++ stream_of load items
+
+-- how the bytes of a journal end, which has a start or not
+abbrev pub sent_end : Bool → End
+sent_end true = ends.Clean
+sent_end false = ends.NoSync
+
+-- what `simulate` writes of a journal: the report of the bytes that were sent
+pub record IsReportText (load : Load) (items : List Item) (made : List ℕ) : Type 0 where
+  pub packets : List Packet
+  pub reads : Reads (stream_of load items) packets (sent_end (has_start load items))
+  pub made_is : made ≡ text_of (report_of packets (sent_end (has_start load items)))
+
+-- all that a command makes of a run is written, which has a start or not
+pub record IsRecording (makes : Load → List Item → List ℕ → Type 0) (text : List ℕ)
+    (old new : Option (List ℕ)) (items : List Item) (started : Bool) : Type 0 where
   pub load : Load
   pub run : IsRun text load items
   pub start : has_start load items ≡ started
-  pub written : Appends old new (recording_text load items)
+  pub made : List ℕ
+  pub makes_it : makes load items made
+  pub written : Appends old new made
 
 -- a part of it is written
-pub record IsRecordingPart (text : List ℕ) (old new : Option (List ℕ))
-    (items : List Item) : Type 0 where
+pub record IsRecordingPart (makes : Load → List Item → List ℕ → Type 0) (text : List ℕ)
+    (old new : Option (List ℕ)) (items : List Item) : Type 0 where
   pub load : Load
   pub run : IsRun text load items
-  pub part : AppendsPart old new (recording_text load items)
+  pub made : List ℕ
+  pub makes_it : makes load items made
+  pub part : AppendsPart old new made
 
 -- nothing is written, and there is no journal
 abbrev pub IsNothing : Option (List ℕ) → Option (List ℕ) → List Item → Type 0
 IsNothing old new items = Appends old new [] × (items ≡ [])
 
 -- the answer over a text that was read whole
-abbrev pub IsTextRecorded : List ℕ → Option (List ℕ) → Option (List ℕ) → List Item → Status → Type 0
-IsTextRecorded text old new items Done = IsRecording text old new items true
-IsTextRecorded text old new items NoSync = IsRecording text old new items false
-IsTextRecorded text old new items WriteFault = IsRecordingPart text old new items
-IsTextRecorded text old new items (Workload line reason) =
+abbrev pub IsTextRecorded : (Load → List Item → List ℕ → Type 0) → List ℕ → Option (List ℕ)
+    → Option (List ℕ) → List Item → Status → Type 0
+IsTextRecorded makes text old new items Done = IsRecording makes text old new items true
+IsTextRecorded makes text old new items NoSync = IsRecording makes text old new items false
+IsTextRecorded makes text old new items WriteFault = IsRecordingPart makes text old new items
+IsTextRecorded makes text old new items (Workload line reason) =
     (first_reason text ≡ Some (line, reason)) × IsNothing old new items
-IsTextRecorded text old new items NoMemory = IsNothing old new items
-IsTextRecorded text old new items other = ⊥
+IsTextRecorded makes text old new items NoMemory = IsNothing old new items
+IsTextRecorded makes text old new items other = ⊥
 
 -- the answer over a file's bytes, of which so many were taken: no more than a workload may have,
 -- and one piece
-abbrev pub IsRecorded : List ℕ → List ℕ → Option (List ℕ) → Option (List ℕ) → List Item → Status
-    → Type 0
-IsRecorded file taken old new items ReadFault =
+abbrev pub IsRecorded : (Load → List Item → List ℕ → Type 0) → List ℕ → List ℕ → Option (List ℕ)
+    → Option (List ℕ) → List Item → Status → Type 0
+IsRecorded makes file taken old new items ReadFault =
     (length taken ≤ most_of_workload) × IsNothing old new items
-IsRecorded file taken old new items (TooLong limit) =
+IsRecorded makes file taken old new items (TooLong limit) =
     (limit ≡ most_of_workload) × (most_of_workload < length taken) × IsNothing old new items
-IsRecorded file taken old new items NoMemory = IsNothing old new items
-IsRecorded file taken old new items other =
-    (taken ≡ file) × (length file ≤ most_of_workload) × IsTextRecorded file old new items other
+IsRecorded makes file taken old new items NoMemory = IsNothing old new items
+IsRecorded makes file taken old new items other =
+    (taken ≡ file) × (length file ≤ most_of_workload) × IsTextRecorded makes file old new items other
 
 -- why a text has no simulation
 abbrev pub IsUnsimulated : List ℕ → Unsimulated → Type 0

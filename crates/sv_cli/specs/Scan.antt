@@ -42,7 +42,7 @@ pub record HasGiven {V : Type 0} (text : Text) (shown : V → List TimedEvent �
   pub viewed : (given : List TimedEvent) → shown before given → shown now (given ++ events)
   pub gathered : (given : List TimedEvent) → shown before given → lines ≡ lines_before ++
       lines_after text given events
-  pub held : length new.held + length events ≤ length old.held
+  pub held : length new.held + 2 * length events ≤ length old.held
   pub pushed_same : pushed new ≡ pushed old
 
 -- none is left after these events, and whether that is for damage
@@ -69,20 +69,20 @@ pub record IsFed (left_before left : Option (List ℕ)) (old new : Decoding) (to
   pub held : length new.held ≤ length old.held + count
   pub ended : count < length buf → IsAtEnd left
 
--- bytes of one piece that the decoder did not take
-pub record IsLost (left_before left : Option (List ℕ)) : Type 0 where
+-- bytes of one piece, of at most this size, that the decoder did not take
+pub record IsLost (size : ℕ) (left_before left : Option (List ℕ)) : Type 0 where
   pub piece : List ℕ
   pub bytes : AreBytes piece
   pub read : Consumes left_before left piece
-  pub one : length piece ≤ piece_size
+  pub one : length piece ≤ size
 
 -- why no more was fed to a decoder that has these many bytes
-abbrev pub IsUnfed : Option (List ℕ) → Option (List ℕ) → ℕ → Cut → Type 0
-IsUnfed left_before left total cuts.Unread = ConsumesFewer left_before left piece_size
-IsUnfed left_before left total cuts.TooLong =
-    (lost : IsLost left_before left) × (most_bytes < total + length lost.piece)
-IsUnfed left_before left total cuts.NoMemory = IsLost left_before left
-IsUnfed left_before left total cuts.Unwritten = ⊥
+abbrev pub IsUnfed : ℕ → Option (List ℕ) → Option (List ℕ) → ℕ → Cut → Type 0
+IsUnfed size left_before left total cuts.Unread = ConsumesFewer left_before left size
+IsUnfed size left_before left total cuts.TooLong =
+    (lost : IsLost size left_before left) × (most_bytes < total + length lost.piece)
+IsUnfed size left_before left total cuts.NoMemory = IsLost size left_before left
+IsUnfed size left_before left total cuts.Unwritten = ⊥
 
 -- the bytes of a file so far are read, their events were shown, and what is written of them is
 -- written
@@ -101,7 +101,7 @@ pub record IsScanned {V : Type 0} (text : Text) (shown : V → List TimedEvent �
   pub viewed : shown scan.view given
   pub total_is : scan.total ≡ length input
   pub within : scan.total ≤ most_bytes
-  pub counted : length given + length scan.decoder.held ≤ scan.total
+  pub counted : 2 * length given + length scan.decoder.held ≤ scan.total
   pub empty : scan.lines.items ≡ []
 
 -- the same between two pieces: the input is whole pieces and not damaged

@@ -2,3 +2,4 @@
 pub mod Events
 pub mod Check
 pub mod Timeline
+pub mod Report

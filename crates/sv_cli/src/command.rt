@@ -13,6 +13,11 @@ pub enum Command<'a> {
     /// `timeline F`: a line for each run of ticks of the recording F with equal contexts, and the end
     /// line.
     Timeline(&'a str),
+    /// `report F`: how much the recording F holds, its system, modules, loads and tasks, and the end
+    /// line.
+    Report(&'a str),
+    /// `simulate W`: the report of the recording that the workload W gives.
+    Simulate(&'a str),
     /// `record W`: the recording that the workload W gives.
     Record(&'a str),
 }
@@ -21,7 +26,7 @@ pub enum Command<'a> {
 pub fn usage() -> &'static str
     ensures { result.now ≡ usage_line }
 {
-    "usage: sysview events F | check F | timeline F | record W\n"
+    "usage: sysview events F | check F | timeline F | report F | simulate W | record W\n"
 }
 
 impl<'a> Command<'a> {
@@ -38,6 +43,8 @@ impl<'a> Command<'a> {
             ["events", file] => Some(Command::Events(file)),
             ["check", file] => Some(Command::Check(file)),
             ["timeline", file] => Some(Command::Timeline(file)),
+            ["report", file] => Some(Command::Report(file)),
+            ["simulate", file] => Some(Command::Simulate(file)),
             ["record", file] => Some(Command::Record(file)),
             _ => None,
         }

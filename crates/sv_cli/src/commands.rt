@@ -2,4 +2,6 @@
 pub mod check;
 pub mod events;
 pub mod record;
+pub mod report;
+pub mod simulate;
 pub mod timeline;

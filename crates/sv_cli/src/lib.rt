@@ -11,6 +11,7 @@ mod command;
 mod commands;
 mod reading;
 mod recording;
+mod reporting;
 mod scan;
 mod simulated;
 mod status;

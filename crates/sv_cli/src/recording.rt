@@ -3,7 +3,7 @@ ghost use Rattle.std.specs.Prelude.{◌≡◌, ◌≤◌, ◌^◌, ◌++◌, [],
 ghost use Rattle.std.specs.Io.KnownBytes.{Appends};
 ghost use Rattle.sv_base.specs.Causes.{BlamesLast};
 ghost use Rattle.sv_base.specs.Streams.{AppendsPart};
-ghost use Rattle.sv_cli.specs.Recorded.{header, is_unwritten, IsTextRecorded};
+ghost use Rattle.sv_cli.specs.Recorded.{header, is_unwritten, IsTextRecorded, IsRecordingText};
 
 use crate::simulated::{Simulation, Unsimulated, simulated};
 use crate::status::Status;
@@ -35,7 +35,7 @@ pub fn record_text<K: Sink>(
 ) -> Status
     requires short { length text.now ≤ 2 ^ 26 }
     requires empty { journal.old.items ≡ [] }
-    ensures recorded { IsTextRecorded text.now
+    ensures recorded { IsTextRecorded IsRecordingText text.now
         (K.written out.old) (K.written out.new) journal.new.items result }
     ensures unwritten { is_unwritten result ≡ true → out.new ≡ out.old }
     ensures sink { BlamesLast (result ≡ Status.WriteFault)

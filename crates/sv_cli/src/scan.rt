@@ -1,7 +1,7 @@
 //! The one loop that reads a recording: pieces of its file go through a decoder, and what a view
 //! makes of the events is written.
-ghost use Rattle.std.specs.Prelude.{◌≡◌, ◌≢◌, ◌+◌, ◌<◌, ◌≤◌, ◌^◌, ◌⊎◌, ◌∷◌, ◌++◌, [], List, ℕ};
-ghost use Rattle.std.specs.Prelude.{Option, true, false, IsTrue, Err, Ok, IsErr, nat_le, length};
+ghost use Rattle.std.specs.Prelude.{◌≡◌, ◌≢◌, ◌+◌, ◌*◌, ◌<◌, ◌≤◌, ◌^◌, ◌⊎◌, ◌∷◌, ◌++◌, []};
+ghost use Rattle.std.specs.Prelude.{List, ℕ, Option, true, false, IsTrue, Err, Ok, IsErr, nat_le, length};
 ghost use Rattle.std.specs.Prelude.{take, IfOk, IfErr, OnOk};
 ghost use Rattle.sv_prim.specs.Text.{AreBytes};
 ghost use Rattle.sv_packet.specs.declared.event.TimedEvent.{TimedEvent as Timed};
@@ -56,7 +56,7 @@ fn drain<V: View>(
     lines: &mut Vec<u8>,
 ) -> Result<bool, NoMemory>
     requires { (input : List ℕ) × (given : List Timed) × StandsFor decoder.old input given
-        × V.shown view.old given × (length given + length decoder.old.held ≤ 2 ^ 33) }
+        × V.shown view.old given × (2 * length given + length decoder.old.held ≤ 2 ^ 33) }
     ensures { IfOk result (λ damaged. (events : List Timed)
         × HasGiven V.text V.shown decoder.old decoder.new view.old view.new
         lines.old.items lines.new.items events
@@ -100,7 +100,7 @@ fn feed<S: Source>(
     ensures fed { IfOk result (λ count.
         IsFed (S.left src.old) (S.left src.new) decoder.old decoder.new total count buf.new) }
     ensures opened { IfOk result (λ count. S.opened src.new ≡ nat_le piece_size count) }
-    ensures unfed { IfErr result (IsUnfed (S.left src.old) (S.left src.new) total) }
+    ensures unfed { IfErr result (IsUnfed piece_size (S.left src.old) (S.left src.new) total) }
     ensures source { IsReadFrom (result ≡ Err Cut.Unread) (S.begins src.old) (S.begins src.new)
         (S.safe src.old) (S.safe src.new) (S.faults src.old) (S.faults src.new) }
 {

@@ -1,10 +1,16 @@
 //! The simulation of the workload that a text says.
-ghost use Rattle.std.specs.Prelude.{◌≡◌, ◌≤◌, ◌^◌, length, IfOk, IfErr};
+ghost use Rattle.std.specs.Prelude.{◌≡◌, ◌≤◌, ◌^◌, List, length, IfOk, IfErr};
+ghost use Rattle.sv_packet.specs.declared.event.Packet.{Packet};
+ghost use Rattle.sv_stream.specs.declared.end.End.{End};
+ghost use Rattle.sv_stream.specs.Reads.{Reads};
 ghost use Rattle.sv_journal.specs.Stream.{stream_of};
-ghost use Rattle.sv_cli.specs.Recorded.{IsRun, IsUnsimulated};
+ghost use Rattle.sv_core.specs.Start.{has_start};
+ghost use Rattle.sv_cli.specs.Recorded.{IsRun, IsUnsimulated, sent_end};
 
 use std::alloc::Global;
-use sv_core::{Simulated, simulate};
+use sv_core::{Simulated, reads_as_sent, simulate};
+use sv_need::within_need;
+use sv_truth::named_truly;
 use sv_workload::{WorkFault, Workload, parse};
 
 /// The most bytes of a workload.
@@ -31,6 +37,10 @@ pub fn simulated(alloc: Global, text: &[u8]) -> Result<Simulation, Unsimulated>
     requires { length text.now ≤ 2 ^ 26 }
     ensures run { IfOk result (λ s. IsRun text.now s.load s.run.journal.items) }
     ensures sent { IfOk result (λ s. s.run.bytes.items ≡ stream_of s.load s.run.journal.items) }
+    ensures short { IfOk result (λ s. length s.run.bytes.items ≤ 2 ^ 33) }
+    ensures ends { IfOk result (λ s. (packets : List Packet) → (end : End) →
+        Reads s.run.bytes.items packets end →
+        end ≡ sent_end (has_start s.load s.run.journal.items)) }
     ensures none { IfErr result (IsUnsimulated text.now) }
 {
     let load = match parse(alloc, text) {
@@ -38,6 +48,12 @@ pub fn simulated(alloc: Global, text: &[u8]) -> Result<Simulation, Unsimulated>
         Err(WorkFault::Line { line, reason }) => return Err(Unsimulated::Line { line, reason }),
         Err(WorkFault::NoMemory) => return Err(Unsimulated::NoMemory),
     };
+    // What is known of every such stream: that it is short, how it ends, and that it names nothing
+    // that is not so.
+    load.writers();
+    within_need();
+    reads_as_sent();
+    named_truly();
     match simulate(alloc, &load) {
         Ok(run) => Ok(Simulation { load, run }),
         Err(_) => Err(Unsimulated::NoMemory),

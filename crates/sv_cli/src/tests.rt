@@ -257,13 +257,16 @@ fn devices_that_fail(rt: HostRuntime) -> Result<(), Fail> {
         assert_eq!(rt; run.out.bytes().len(), 4113 * lines, "at call {call}");
         assert_eq!(rt; run.err.bytes(), "write fault\n".as_bytes());
     }
-    // A check writes once, at the end.
-    let checked = run(alloc, &["check", "f"], &file, &[], &[1])?;
-    assert_eq!(rt; checked.status, Status::WriteFault);
-    assert_eq!(rt; checked.out.bytes(), [].as_slice());
-    let unread = run(alloc, &["check", "f"], &file, &[5], &[])?;
-    assert_eq!(rt; unread.status, Status::ReadFault);
-    assert_eq!(rt; unread.out.bytes(), [].as_slice());
+    // A check and a report are written once, at the end.
+    for command in ["check", "report"] {
+        let words = [command, "f"];
+        let unwritten = run(alloc, &words, &file, &[], &[1])?;
+        assert_eq!(rt; unwritten.status, Status::WriteFault);
+        assert_eq!(rt; unwritten.out.bytes(), [].as_slice());
+        let unread = run(alloc, &words, &file, &[5], &[])?;
+        assert_eq!(rt; unread.status, Status::ReadFault);
+        assert_eq!(rt; unread.out.bytes(), [].as_slice());
+    }
     Ok(())
 }
 
@@ -275,7 +278,7 @@ fn nothing_is_read_after_damage(rt: HostRuntime) -> Result<(), Fail> {
     for _ in 0..9000 {
         file.push(0x00)?;
     }
-    for command in ["events", "check", "timeline"] {
+    for command in ["events", "check", "timeline", "report"] {
         let shown = run(alloc, &[command, "f"], &file, &[3], &[])?;
         let place = 12;
         assert_eq!(rt; shown.status, Status::Damaged { place, reason: 2 });
@@ -290,7 +293,7 @@ fn is_usage(alloc: Global, words: &[&str]) -> Result<bool, Fail> {
     Ok(
         run.status == Status::Usage
             && run.err.bytes()
-                == b"usage: sysview events F | check F | timeline F | record W\n".as_slice(),
+                == b"usage: sysview events F | check F | timeline F | report F | simulate W | record W\n".as_slice(),
     )
 }
 
@@ -299,6 +302,7 @@ fn words_and_codes(rt: HostRuntime) -> Result<(), Fail> {
     let alloc = rt.alloc();
     assert!(rt; is_usage(alloc, &[])?);
     assert!(rt; is_usage(alloc, &["report"])?);
+    assert!(rt; is_usage(alloc, &["simulate", "f", "f"])?);
     assert!(rt; is_usage(alloc, &["events"])?);
     assert!(rt; is_usage(alloc, &["events", "f", "f"])?);
     assert!(rt; is_usage(alloc, &["check"])?);

@@ -11,6 +11,8 @@ use crate::command::Command;
 use crate::commands::check::Check;
 use crate::commands::events::Events;
 use crate::commands::record::record;
+use crate::commands::report::Summary;
+use crate::commands::simulate::simulate;
 use crate::commands::timeline::Runs;
 use crate::scan::scan_file;
 use crate::status::{Status, say};
@@ -42,20 +44,24 @@ fn answer<S: Source, K: Sink>(
         Command::Events(name) => scan_file(alloc, Events, name, src, out),
         Command::Check(name) => scan_file(alloc, Check::new(), name, src, out),
         Command::Timeline(name) => scan_file(alloc, Runs::new(alloc), name, src, out),
+        Command::Report(name) => scan_file(alloc, Summary::new(alloc), name, src, out),
+        Command::Simulate(name) => simulate(alloc, name, src, out, journal),
         Command::Record(name) => record(alloc, name, src, out, journal),
     }
 }
 
 /// Does the command that the words name, and says how it ended.
 ///
-/// `words` are those after the program's name. `events F`, `check F` and `timeline F` read the file
-/// F from `src`, of at most 2^33 bytes, in pieces of 4096 bytes, and nothing after a piece that is
-/// damaged. `events` writes a line for each event to `out`, those of a piece at once, and an end
-/// line; `check` writes how many packets there are, the time of the last one, and the end line;
-/// `timeline` writes a line for each run of ticks with equal contexts as the runs end, those of a
-/// piece at once, then the last run's and the end line. `record W` reads the workload W, of at most 2^26 bytes, simulates it, and writes a line and the bytes
-/// that were sent; `journal` is then that of the run. A status other than Done is told to `err`, in
-/// one line; what `err` does with it changes nothing.
+/// `words` are those after the program's name. `events F`, `check F`, `timeline F` and `report F`
+/// read the file F from `src`, of at most 2^33 bytes, in pieces of 4096 bytes, and nothing after a
+/// piece that is damaged. `events` writes a line for each event to `out`, those of a piece at once,
+/// and an end line; `check` writes how many packets there are, the time of the last one, and the end
+/// line; `timeline` writes a line for each run of ticks with equal contexts as the runs end, those
+/// of a piece at once, then the last run's and the end line; `report` writes the report of all
+/// events. `simulate W` and `record W` read the workload W, of at most 2^26 bytes, and simulate it.
+/// `simulate` writes the report of the bytes that were sent, and `record` a line and these bytes;
+/// `journal` is then that of the run. A status other than Done is told to `err`, in one line; what
+/// `err` does with it changes nothing.
 pub fn offline<S: Source, K: Sink>(
     alloc: Global,
     words: &[&str],

@@ -25,7 +25,7 @@ pub trait View {
         event: &EventRef<'_>,
         lines: &mut Vec<u8>,
     ) -> Result<(), NoMemory>
-        requires { (earlier : List Timed) × shown self.old earlier × (length earlier < 2 ^ 33)
+        requires { (earlier : List Timed) × shown self.old earlier × (length earlier < 2 ^ 32)
             × (last_time earlier ≤ time) }
         ensures shown { (earlier : List Timed) → shown self.old earlier →
             OnOk result (shown self.new (earlier ++ seen_at time event.now ∷ [])) }

@@ -2,7 +2,7 @@
 ghost use Rattle.std.specs.Prelude.{◌≡◌, ◌≢◌, [], true};
 ghost use Rattle.sv_base.specs.Causes.{Blames, BlamesLast, one_more};
 ghost use Rattle.sv_cli.specs.Devices.{OfFile};
-ghost use Rattle.sv_cli.specs.Recorded.{is_unwritten, IsRecorded};
+ghost use Rattle.sv_cli.specs.Recorded.{is_unwritten, IsRecorded, IsRecordingText};
 
 use crate::reading::read_file;
 use crate::recording::record_text;
@@ -22,7 +22,8 @@ pub fn record<S: Source, K: Sink>(
 ) -> Status
     requires { journal.old.items ≡ [] }
     ensures answered { OfFile (S.held src.old name.now) (S.left src.new) (λ file taken.
-        IsRecorded file taken (K.written out.old) (K.written out.new) journal.new.items result) }
+        IsRecorded IsRecordingText file taken (K.written out.old) (K.written out.new)
+        journal.new.items result) }
     ensures unwritten { is_unwritten result ≡ true → out.new ≡ out.old }
     ensures begins { S.begins src.new ≡ one_more (S.begins src.old) }
     ensures sure { S.sure src.old name.now → result ≢ Status.ReadFault }

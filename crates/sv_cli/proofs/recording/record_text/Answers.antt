@@ -1,6 +1,4 @@
-use Rattle.std.proofs.Common.{◌∙◌, ◌++◌, ℕ, List, sym, ap, subst}
-use Rattle.std.specs.Io.KnownBytes.{Appends}
-use Rattle.sv_base.specs.Streams.{AppendsPart}
+use Rattle.std.proofs.Common.{◌∙◌, ◌++◌, ℕ, List, sym, ap}
 use Rattle.sv_core.specs.Start.{has_start as holds_start}
 use Rattle.sv_cli.specs.Recorded.{header}
 use Rattle.sv_cli.proofs.recording.record_text.Goals as goal
@@ -9,9 +7,9 @@ pub returns-in_default-clause-recorded : goal.returns-in_default-clause-recorded
 returns-in_default-clause-recorded g c = record {
   load = c.in-Ok.made.load;
   run = c.in-Ok.ensures.run;
-  part = subst (λ (bs : List ℕ). AppendsPart (g.K.Sink.written c.args.out.now)
-      (g.K.Sink.written c.put_recording.new.out) (header ++ bs))
-      (c.as_slice.ensures.value ∙ c.in-Ok.ensures.sent) c.in_default.ensures.err;
+  made = header ++ c.as_slice.result.now;
+  makes_it = ap (λ (bs : List ℕ). header ++ bs) (c.as_slice.ensures.value ∙ c.in-Ok.ensures.sent);
+  part = c.in_default.ensures.err;
 }
 
 pub returns-then-not-has_start-clause-recorded : goal.returns-then-not-has_start-clause-recorded
@@ -20,9 +18,9 @@ returns-then-not-has_start-clause-recorded g c = record {
   run = c.in-Ok.ensures.run;
   start = sym (ap (holds_start c.in-Ok.made.load) c.items.ensures) ∙ sym c.has_start.ensures ∙
       c.if-not-has_start.true;
-  written = subst (λ (bs : List ℕ). Appends (g.K.Sink.written c.args.out.now)
-      (g.K.Sink.written c.put_recording.new.out) (header ++ bs))
-      (c.as_slice.ensures.value ∙ c.in-Ok.ensures.sent) c.in-Ok-put_recording.ensures.ok;
+  made = header ++ c.as_slice.result.now;
+  makes_it = ap (λ (bs : List ℕ). header ++ bs) (c.as_slice.ensures.value ∙ c.in-Ok.ensures.sent);
+  written = c.in-Ok-put_recording.ensures.ok;
 }
 
 pub returns-clause-recorded : goal.returns-clause-recorded
@@ -31,7 +29,7 @@ returns-clause-recorded g c = record {
   run = c.in-Ok.ensures.run;
   start = sym (ap (holds_start c.in-Ok.made.load) c.items.ensures) ∙ sym c.has_start.ensures ∙
       c.if-not-has_start.false;
-  written = subst (λ (bs : List ℕ). Appends (g.K.Sink.written c.args.out.now)
-      (g.K.Sink.written c.put_recording.new.out) (header ++ bs))
-      (c.as_slice.ensures.value ∙ c.in-Ok.ensures.sent) c.in-Ok-put_recording.ensures.ok;
+  made = header ++ c.as_slice.result.now;
+  makes_it = ap (λ (bs : List ℕ). header ++ bs) (c.as_slice.ensures.value ∙ c.in-Ok.ensures.sent);
+  written = c.in-Ok-put_recording.ensures.ok;
 }

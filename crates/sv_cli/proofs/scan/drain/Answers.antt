@@ -22,7 +22,7 @@ loop-front-preserved g c =
           c.args.lines.now.items c.loop-front.lines.items c.event.new.lines.items events event
           c.loop-front.invariant.1
           (c.pass.ensures.stands (seen front.event) c.in-Some.ensures.front)
-          c.in_ok-event.ensures.shown c.in_ok-event.ensures.line c.pass.ensures.fewer
+          c.in_ok-event.ensures.shown c.in_ok-event.ensures.line c.pass.ensures.two
           c.pass.ensures.pushed,
     )
 

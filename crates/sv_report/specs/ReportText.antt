@@ -76,19 +76,24 @@ task_line line =
     codes "task " ++ (decimal line.times.task ++ (codes " " ++ (id_word line.id
     ++ (codes " " ++ (name_word line.name ++ times_words line.times)))))
 
--- the five lines that each report has
-abbrev pub head_of : Report → List ℕ
-head_of report =
+-- the four lines of counts
+abbrev pub counts_of : Report → List ℕ
+counts_of report =
     count_line (codes "packets ") report.packets
     ++ (count_line (codes "ticks ") report.ticks
     ++ (lost_line report.lost report.overflows
-    ++ (count_line (codes "anomalies ") report.anomalies ++ system_line report.system)))
+    ++ count_line (codes "anomalies ") report.anomalies))
+
+-- the counts alone, and how it ended
+abbrev pub short_text_of : Report → List ℕ
+short_text_of report = counts_of report ++ end_line report.end
 
 abbrev pub text_of : Report → List ℕ
 text_of report =
-    head_of report
+    counts_of report
+    ++ (system_line report.system
     ++ (flat_map desc_line report.descs
     ++ (flat_map module_line report.modules
     ++ (flat_map load_line report.loads
     ++ (flat_map task_line report.tasks
-    ++ end_line report.end))))
+    ++ end_line report.end)))))

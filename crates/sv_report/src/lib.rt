@@ -3,7 +3,7 @@
 //!
 //! The contract above this crate: [`event_line`], [`span_line`] and [`end_line`] add exactly the
 //! line of their definition to a buffer, or leave the buffer as it was where memory is wanting;
-//! [`text`] is the text of a report, and [`put_report`] adds it.
+//! [`text`] is the text of a report, [`put_report`] adds it, and [`short_text`] is that of its counts.
 #![tactic(auto)]
 
 mod ends;
@@ -17,7 +17,7 @@ mod texts;
 
 pub use ends::{end_line, reason_number};
 pub use events::event_line;
-pub use report::{put_report, text};
+pub use report::{put_report, short_text, text};
 pub use spans::span_line;
 
 #[cfg(test)]

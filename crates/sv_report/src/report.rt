@@ -2,7 +2,7 @@
 ghost use Rattle.std.specs.Prelude.{◌≡◌, ◌++◌, ◌<◌, ◌/◌, ◌%◌, OnOk, IfOk, codes, flat_map};
 ghost use Rattle.std.specs.Fmt.{decimal};
 ghost use Rattle.sv_report.specs.Lines.{hex_digit as digit_of};
-ghost use Rattle.sv_report.specs.ReportText.{count_line, head_of, lost_line};
+ghost use Rattle.sv_report.specs.ReportText.{count_line, counts_of, lost_line, short_text_of};
 ghost use Rattle.sv_report.specs.ReportText.{system_line as line_of_system};
 ghost use Rattle.sv_report.specs.ReportText.{desc_line, module_line, load_line, task_line, text_of};
 ghost use Rattle.sv_report.specs.ReportText.{id_word, name_word, measured_word, times_words};
@@ -54,15 +54,14 @@ fn put_system(system: Option<System>, out: &mut Vec<u8>) -> Result<(), AllocErro
     }
 }
 
-/// Appends the five lines that each report has.
-fn put_head(report: &Report, out: &mut Vec<u8>) -> Result<(), AllocError>
-    ensures { OnOk result (out.new.items ≡ out.old.items ++ head_of report.now) }
+/// Appends the lines of counts.
+fn put_counts(report: &Report, out: &mut Vec<u8>) -> Result<(), AllocError>
+    ensures { OnOk result (out.new.items ≡ out.old.items ++ counts_of report.now) }
 {
     put_count("packets ", report.packets, out)?;
     put_count("ticks ", report.ticks, out)?;
     put_lost(report.lost, report.overflows, out)?;
-    put_count("anomalies ", report.anomalies, out)?;
-    put_system(report.system, out)
+    put_count("anomalies ", report.anomalies, out)
 }
 
 /// Appends the line of a description.
@@ -215,7 +214,8 @@ fn put_tasks(lines: &[TaskLine], out: &mut Vec<u8>) -> Result<(), AllocError>
 pub fn put_report(report: &Report, out: &mut Vec<u8>) -> Result<(), NoMemory>
     ensures { OnOk result (out.new.items ≡ out.old.items ++ text_of report.now) }
 {
-    put_head(report, out)?;
+    put_counts(report, out)?;
+    put_system(report.system, out)?;
     put_descs(report.descs.lines(), out)?;
     put_modules(report.modules.lines(), out)?;
     put_loads(report.loads.lines(), out)?;
@@ -229,5 +229,15 @@ pub fn text(alloc: Global, report: &Report) -> Result<Vec<u8>, NoMemory>
 {
     let mut out = Vec::new(alloc);
     put_report(report, &mut out)?;
+    Ok(out)
+}
+
+/// The report's counts and its end, without what it says of contexts and tasks.
+pub fn short_text(alloc: Global, report: &Report) -> Result<Vec<u8>, NoMemory>
+    ensures { IfOk result (λ text. text.items ≡ short_text_of report.now) }
+{
+    let mut out = Vec::new(alloc);
+    put_counts(report, &mut out)?;
+    end_line(&report.end, &mut out)?;
     Ok(out)
 }

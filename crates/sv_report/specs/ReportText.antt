@@ -88,12 +88,15 @@ counts_of report =
 abbrev pub short_text_of : Report → List ℕ
 short_text_of report = counts_of report ++ end_line report.end
 
+-- the five lines that each report has
+abbrev pub head_of : Report → List ℕ
+head_of report = counts_of report ++ system_line report.system
+
 abbrev pub text_of : Report → List ℕ
 text_of report =
-    counts_of report
-    ++ (system_line report.system
+    head_of report
     ++ (flat_map desc_line report.descs
     ++ (flat_map module_line report.modules
     ++ (flat_map load_line report.loads
     ++ (flat_map task_line report.tasks
-    ++ end_line report.end)))))
+    ++ end_line report.end))))

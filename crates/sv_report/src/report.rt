@@ -2,7 +2,8 @@
 ghost use Rattle.std.specs.Prelude.{◌≡◌, ◌++◌, ◌<◌, ◌/◌, ◌%◌, OnOk, IfOk, codes, flat_map};
 ghost use Rattle.std.specs.Fmt.{decimal};
 ghost use Rattle.sv_report.specs.Lines.{hex_digit as digit_of};
-ghost use Rattle.sv_report.specs.ReportText.{count_line, counts_of, lost_line, short_text_of};
+ghost use Rattle.sv_report.specs.ReportText.{count_line, counts_of, head_of, lost_line};
+ghost use Rattle.sv_report.specs.ReportText.{short_text_of};
 ghost use Rattle.sv_report.specs.ReportText.{system_line as line_of_system};
 ghost use Rattle.sv_report.specs.ReportText.{desc_line, module_line, load_line, task_line, text_of};
 ghost use Rattle.sv_report.specs.ReportText.{id_word, name_word, measured_word, times_words};
@@ -62,6 +63,14 @@ fn put_counts(report: &Report, out: &mut Vec<u8>) -> Result<(), AllocError>
     put_count("ticks ", report.ticks, out)?;
     put_lost(report.lost, report.overflows, out)?;
     put_count("anomalies ", report.anomalies, out)
+}
+
+/// Appends the five lines that each report has.
+fn put_head(report: &Report, out: &mut Vec<u8>) -> Result<(), AllocError>
+    ensures { OnOk result (out.new.items ≡ out.old.items ++ head_of report.now) }
+{
+    put_counts(report, out)?;
+    put_system(report.system, out)
 }
 
 /// Appends the line of a description.
@@ -214,8 +223,7 @@ fn put_tasks(lines: &[TaskLine], out: &mut Vec<u8>) -> Result<(), AllocError>
 pub fn put_report(report: &Report, out: &mut Vec<u8>) -> Result<(), NoMemory>
     ensures { OnOk result (out.new.items ≡ out.old.items ++ text_of report.now) }
 {
-    put_counts(report, out)?;
-    put_system(report.system, out)?;
+    put_head(report, out)?;
     put_descs(report.descs.lines(), out)?;
     put_modules(report.modules.lines(), out)?;
     put_loads(report.loads.lines(), out)?;

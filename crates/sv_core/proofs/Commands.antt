@@ -1,6 +1,6 @@
 -- What a host sent, and what a section finds of it: whole commands, one at most.
 use Rattle.std.proofs.Common.{◌≡◌, ℕ, zero, suc, ◌+◌, ◌<◌, ◌≤◌, Bool, true, false, cond, List, []}
-use Rattle.std.proofs.Common.{◌∷◌, ◌++◌, length, take, drop, filter, All, refl, sym, ap, ◌∙◌, subst}
+use Rattle.std.proofs.Common.{◌∷◌, ◌++◌, length, take, drop, All, refl, sym, ap, ◌∙◌, subst}
 use Rattle.std.proofs.Common.{arith, rules, append-nil, append_assoc, length-append, add-one}
 use Rattle.std.specs.Prelude.{flat_map, count_by, nat_lt, slice_get, Option, Some, None, IfSome}
 use Rattle.std.specs.Prelude.{if◌then◌else◌}

@@ -1,9 +1,8 @@
 -- How many steps and calls a journal in order has, and that a call stands first.
-use Rattle.std.proofs.Common.{◌≡◌, ℕ, ◌+◌, ◌<◌, ◌≤◌, false, cond, List, [], ◌∷◌}
-use Rattle.std.proofs.Common.{◌++◌, length, reverse, take, refl, sym, ap, ◌∙◌, subst, arith}
+use Rattle.std.proofs.Common.{◌≡◌, ℕ, ◌+◌, ◌<◌, false, cond, List, [], ◌∷◌}
+use Rattle.std.proofs.Common.{◌++◌, length, reverse, refl, sym, ap, ◌∙◌, subst, arith}
 use Rattle.std.proofs.Common.{length-append}
 use Rattle.std.specs.Prelude.{count_by, nat_lt, ◌==◌}
-use Rattle.std.proofs.lemmas.List.{nil_from_length}
 use Rattle.sv_workload.specs.Load.{Load}
 use Rattle.sv_journal.specs.declared.journal.Origin.{Origin}
 use Rattle.sv_journal.specs.declared.journal.Origin.TheVariants.{Call, Sync, Reply, Overflow}
@@ -11,20 +10,18 @@ use Rattle.sv_journal.specs.declared.journal.Origin.TheVariants.{Command}
 use Rattle.sv_journal.specs.declared.journal.Item.{Item}
 use Rattle.sv_journal.specs.Items.{latest_first, is_call, is_call_of, is_command, is_overflow}
 use Rattle.sv_journal.specs.Legal.{IsLegal, AreFirstCommands, origins_of}
-use Rattle.sv_journal.specs.Legal.{commands_in}
 use Rattle.sv_core.specs.Order.{Turn, Takes_step, Reads, Reads_all, Sends, is_step, is_step_of}
 use Rattle.sv_core.specs.Order.{is_send}
 use Rattle.sv_core.specs.Turns.{StepTurn, turn_at, step_turns}
 use Rattle.sv_core.specs.Simulated.{IsInOrder, before_section}
 use Rattle.sv_core.specs.Simulated.{ordered_turns}
-use Rattle.sv_core.proofs.Counts.{lt_false, count-cons, count-not}
+use Rattle.sv_core.proofs.Counts.{count-cons, count-not}
 use Rattle.sv_core.proofs.Counts.{calls_in, calls-cons}
 use Rattle.sv_core.proofs.JournalParts.{origins_of-append, origins_of-cons}
 use Rattle.sv_core.proofs.TurnsOfOrder.{ordered-length}
 use Rattle.sv_core.proofs.TurnCounts.{count-reverse, count-append, calls_turned}
 use Rattle.sv_core.proofs.OriginsOfTurns.{IsLastCall, last_call-tail, last_call-some, first_call}
 use Rattle.sv_core.proofs.OriginsOfTurns.{origins_by, origins_of-reverse, calls-origins}
-use Rattle.sv_core.proofs.RunSections.{commands_number}
 
 -- COUNTS
 

@@ -10,7 +10,7 @@ use Rattle.sv_recorder.specs.Commands.{command_bytes, bytes_in}
 use Rattle.sv_recorder.specs.Recording.{Recording}
 use Rattle.sv_journal.specs.Stream.{stream_of}
 use Rattle.sv_core.specs.BadTurns.{AreAskable}
-use Rattle.sv_core.specs.Order.{Turn, Takes_step, Sends, is_send, is_possible, scheduled}
+use Rattle.sv_core.specs.Order.{Turn, Takes_step, is_send, is_possible, scheduled}
 use Rattle.sv_core.specs.Order.{sends_left, count_up, round_of}
 use Rattle.sv_core.specs.Simulated.{IsInOrder, taken_in}
 

@@ -5,7 +5,6 @@ use std::alloc::Global;
 use std::process::Abort;
 use std::test::*;
 use sv_journal::{Item, Origin, Outcome};
-
 use sv_workload::{Workload, parse};
 
 /// A start at tick 0 and thirteen marks of the number 5, one tick apart, over a ring of 64 bytes.
@@ -189,9 +188,12 @@ fn commands_by_the_schedule(rt: HostRuntime) -> Result<(), Fail> {
     let run = simulated(alloc, text)?;
     assert_eq!(rt; run.journal.items().len(), 11);
     assert_eq!(rt; run.bytes.len(), 51);
-    assert!(rt; run.bytes.ends_with(&[
-        0x0f, 0x05, 1, 0x16, 0, 0x80, 0x04, 0x05, 0x4d, 0x3d, 0x4e, 0x65, 0x74, 0, 0x0f, 0x06, 1,
-    ]));
+    assert!(rt;
+        run.bytes.ends_with(&[
+            0x0f, 0x05, 1, 0x16, 0, 0x80, 0x04, 0x05, 0x4d, 0x3d, 0x4e, 0x65, 0x74, 0, 0x0f, 0x06,
+            1,
+        ])
+    );
     let last = Item {
         origin: Origin::Command { byte: 9, param: 0 },
         moment: 2,

@@ -1,9 +1,9 @@
-use Rattle.std.proofs.Common.{◌≡◌, ℕ, ◌+◌, ◌<◌, ◌≤◌, sym, ap, ◌∙◌, subst, arith, length}
-use Rattle.std.specs.Prelude.{count_by, slice_index_or}
+use Rattle.std.proofs.Common.{◌≡◌, ◌+◌, ◌<◌, ◌≤◌, sym, ap, ◌∙◌, subst, arith, length}
+use Rattle.std.specs.Prelude.{slice_index_or}
 use Rattle.sv_workload.specs.declared.load.Action.{Action}
 use Rattle.sv_workload.specs.declared.load.Action.TheVariants as actions
 use Rattle.sv_recorder.specs.Recording.{Recording}
-use Rattle.sv_core.specs.Order.{is_send, possible}
+use Rattle.sv_core.specs.Order.{possible}
 use Rattle.sv_core.specs.Played.{HasSent, IsPlayed, IsSending}
 use Rattle.sv_core.proofs.OrderParts.{asked_by}
 use Rattle.sv_core.proofs.Playing.{played-read}

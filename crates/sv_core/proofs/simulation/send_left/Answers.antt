@@ -1,8 +1,7 @@
-use Rattle.std.proofs.Common.{◌≡◌, ◌+◌, ◌-◌, ◌<◌, ◌≤◌, ◌++◌, length, replicate, sym, ap, ◌∙◌}
+use Rattle.std.proofs.Common.{◌≡◌, ◌+◌, ◌-◌, ◌<◌, ◌++◌, length, replicate, sym, ap, ◌∙◌}
 use Rattle.std.proofs.Common.{subst, arith}
-use Rattle.std.specs.Prelude.{count_by}
-use Rattle.sv_core.specs.Order.{Sends, is_send, scheduled}
-use Rattle.sv_core.specs.Played.{HasSent, IsPlayed, IsSending}
+use Rattle.sv_core.specs.Order.{Sends, scheduled}
+use Rattle.sv_core.specs.Played.{HasSent, IsPlayed}
 use Rattle.sv_core.proofs.PlayingLines.{played-left, sends-left}
 use Rattle.sv_core.proofs.simulation.send_left.Goals as goal
 

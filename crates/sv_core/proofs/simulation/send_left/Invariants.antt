@@ -1,4 +1,4 @@
-use Rattle.std.proofs.Common.{◌≡◌, ◌-◌, ◌++◌, replicate}
+use Rattle.std.proofs.Common.{◌-◌, ◌++◌, replicate}
 use Rattle.sv_core.specs.Order.{Sends, scheduled}
 use Rattle.sv_core.specs.Played.{IsPlayed}
 use Rattle.sv_core.proofs.simulation.send_left.Given as goal

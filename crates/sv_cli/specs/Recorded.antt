@@ -12,10 +12,10 @@ use Rattle.sv_report.specs.ReportText.{text_of}
 use Rattle.sv_workload.specs.Load.{Load}
 use Rattle.sv_workload.specs.Grammar.{first_reason, IsWorkload}
 use Rattle.sv_journal.specs.declared.journal.Item.{Item}
-use Rattle.sv_journal.specs.Stream.{stream_of, IsCalm}
+use Rattle.sv_journal.specs.Stream.{stream_of}
 use Rattle.sv_core.specs.Simulated.{IsSimulated}
 use Rattle.sv_core.specs.Start.{has_start}
-use Rattle.sv_truth.specs.Truth.{TellsContexts, TellsClasses}
+use Rattle.sv_truth.specs.Truth.{TellsTruly}
 use Rattle.sv_cli.specs.declared.simulated.Unsimulated.{Unsimulated}
 use Rattle.sv_cli.specs.declared.simulated.Unsimulated.TheVariants as faults
 use Rattle.sv_cli.specs.declared.status.Status.{Status}
@@ -31,17 +31,12 @@ most_of_workload = 2 ^ 26
 abbrev pub header : List ℕ
 header = codes "; sysview recording\n"
 
--- each context and each wait that the stream of a journal names is the one by all calls, the lost
--- ones included, where stored packets are less than a period of the counter apart
-abbrev pub NamesTruly : Load → List Item → Type 0
-NamesTruly load items =
-    IsCalm load items → TellsContexts load items × TellsClasses load items
-
--- the text says this workload, and the journal is that of its simulation
+-- the text says this workload, and the journal is that of its simulation, whose stream names
+-- nothing that is not true of all calls, the lost ones included
 pub record IsRun (text : List ℕ) (load : Load) (items : List Item) : Type 0 where
   pub says : IsWorkload text load
   pub simulated : IsSimulated load items
-  pub names : NamesTruly load items
+  pub names : TellsTruly load items
 
 -- what `record` writes of a journal
 abbrev pub IsRecordingText : Load → List Item → List ℕ → Type 0

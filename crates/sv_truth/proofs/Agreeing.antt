@@ -30,7 +30,7 @@ roles_now events = segment_of (events_of events)
 abbrev pub AgreeRoles : List Role → List Role → Type 0
 AgreeRoles sent calls =
     ((base_in sent ≡ None) × (lower : List Context) ×
-        (open_frames calls ≡ lower ++ open_frames sent))
+    (open_frames calls ≡ lower ++ open_frames sent))
     ⊎ ((base_in sent ≡ base_in calls) × (open_frames sent ≡ open_frames calls))
 
 abbrev pub AgreeOn : ℕ → List TimedEvent → List TimedEvent → Type 0
@@ -67,7 +67,7 @@ without_upper : (lower : List Context) (f : Context) (fs : List Context) →
 without_upper [] f fs = refl
 without_upper (c ∷ lower) f fs =
     keep_first c (length lower + length fs) (lower ++ f ∷ fs) (omega (arith, length_two lower f fs))
-        ∙ ap (λ rest. c ∷ rest) (without_upper lower f fs)
+    ∙ ap (λ rest. c ∷ rest) (without_upper lower f fs)
   where
     length_two : (lower : List Context) (f : Context) (fs : List Context) →
         length (lower ++ f ∷ fs) ≡ suc (length lower + length fs)
@@ -96,8 +96,12 @@ roles-both (enter c) sent calls (inr (same, frames)) = inr (
 )
 roles-both exit sent calls (inl (none, lower, is)) =
     let (left, rest) = closed lower (open_frames sent) in
-    inl (base-stays sent exit refl ∙ none, left, frames-exit calls ∙ ap without_last is ∙ rest
-        ∙ ap (λ fs. left ++ fs) (sym (frames-exit sent)))
+    inl (
+      base-stays sent exit refl ∙ none,
+      left,
+      frames-exit calls ∙ ap without_last is ∙ rest
+          ∙ ap (λ fs. left ++ fs) (sym (frames-exit sent)),
+    )
 roles-both exit sent calls (inr (same, frames)) = inr (
   base-stays sent exit refl ∙ same ∙ sym (base-stays calls exit refl),
   frames-exit sent ∙ ap without_last frames ∙ sym (frames-exit calls),
@@ -115,8 +119,12 @@ roles-both nothing sent calls (inr (same, frames)) = inr (
 roles-idle : (sent calls : List Role) → AgreeRoles sent calls →
     AgreeRoles (sent ++ nothing ∷ []) calls
 roles-idle sent calls (inl (none, lower, is)) =
-    inl (base-stays sent nothing refl ∙ none, lower, is
-    ∙ ap (λ fs. lower ++ fs) (sym (frames-nothing sent)))
+    inl (
+      base-stays sent nothing refl ∙ none,
+      lower,
+      is
+          ∙ ap (λ fs. lower ++ fs) (sym (frames-nothing sent)),
+    )
 roles-idle sent calls (inr (same, frames)) =
     inr (base-stays sent nothing refl ∙ same, frames-nothing sent ∙ frames)
 
@@ -181,10 +189,12 @@ agree-idle sent calls e idle agree = record {
 -- a row that tells nothing agrees with any
 pub agree-blank : (sent calls : List TimedEvent) → IsBlank sent → Agree sent calls
 agree-blank sent calls blank = record {
-  roles = inl
-      (blank.base_none, open_frames (roles_now calls),
-      sym (ap (λ fs. open_frames (roles_now calls) ++ fs) blank.frames_none
-      ∙ append-nil (open_frames (roles_now calls))));
+  roles = inl (
+    blank.base_none,
+    open_frames (roles_now calls),
+    sym (ap (λ fs. open_frames (roles_now calls) ++ fs) blank.frames_none
+        ∙ append-nil (open_frames (roles_now calls))),
+  );
   about = λ task. inl (blank.about task);
 }
 
@@ -233,11 +243,11 @@ context-same : (sent calls : List Role) → AgreeRoles sent calls → context_in
 context-same sent calls (inr (same, frames)) named = rw (same, frames) refl
 context-same sent calls (inl (none, lower, is)) named =
     let first : context_in sent ≡ shown None (open_frames sent) =
-        ap (λ b. shown b (open_frames sent)) none in
+    ap (λ b. shown b (open_frames sent)) none in
     let second : context_in calls ≡ shown (base_in calls) (lower ++ open_frames sent) =
-        ap (shown (base_in calls)) is in
+    ap (shown (base_in calls)) is in
     first ∙ shown-upper (base_in calls) lower (open_frames sent) (λ e. named (first ∙ e))
-        ∙ sym second
+    ∙ sym second
 
 pub agree-context : (sent calls : List TimedEvent) → Agree sent calls →
     context_after (events_of sent) ≢ Unknown →

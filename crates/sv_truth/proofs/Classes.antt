@@ -1,18 +1,18 @@
 -- Classes through gaps: what the stream tells of a start's wait is true of all calls.
-use Rattle.std.proofs.Common.{◌≡◌, ◌≢◌, true, false, Option, Some, None, List, [], ◌∷◌, refl, ap, ◌∙◌}
+use Rattle.std.proofs.Common.{◌≡◌, ◌≢◌, true, false, Option, Some, None, List, [], ◌∷◌, refl, ap}
+use Rattle.std.proofs.Common.{◌∙◌, rules}
 use Rattle.std.specs.Prelude.{option_map, option_to_list}
 use Rattle.sv_packet.specs.declared.event.Event.{Event}
 use Rattle.sv_packet.specs.declared.event.TimedEvent.{TimedEvent}
 use Rattle.sv_workload.specs.Load.{Load}
 use Rattle.sv_journal.specs.declared.journal.Origin.{Origin}
-use Rattle.sv_journal.specs.declared.journal.Origin.TheVariants.{Call, Sync, Reply, Overflow}
-use Rattle.sv_journal.specs.declared.journal.Origin.TheVariants.{Command}
 use Rattle.sv_journal.specs.declared.journal.Outcome.TheVariants.{Stored}
 use Rattle.sv_journal.specs.declared.journal.Item.{Item}
 use Rattle.sv_journal.specs.Items.{latest_first, is_stored, is_packet, holds_packet}
 use Rattle.sv_journal.specs.Legal.{EachItem, IsLegal}
 use Rattle.sv_journal.specs.Stream.{events_before}
-use Rattle.sv_core.proofs.Shared.{Fate, IsPlaced, fate, handling, ignoring, placed, refusing, at_time}
+use Rattle.sv_core.proofs.Shared.{Fate, IsPlaced, fate, handling, ignoring, placed, refusing}
+use Rattle.sv_core.proofs.Shared.{at_time}
 use Rattle.sv_core.proofs.Shared.{storing}
 use Rattle.sv_latency.specs.declared.class.Class.{Class}
 use Rattle.sv_latency.specs.declared.class.Class.TheVariants.{Unknown}
@@ -35,11 +35,7 @@ AreClassesTrue load items = EachItem (IsClassTrue load) (latest_first items)
 
 pub call_packet : (load : Load) (origin : Origin) (event : Event) →
     call_event load origin ≡ Some event → holds_packet origin Stored ≡ true
-call_packet load (Call writer step) event is = refl
-call_packet load Sync event is = absurd cc
-call_packet load (Reply kind index) event is = absurd cc
-call_packet load (Overflow count) event is = absurd cc
-call_packet load (Command byte param) event is = absurd cc
+call_packet = search rules
 
 made : (load : Load) (item : Item) (event : TimedEvent) → call_in load item ≡ event ∷ [] →
     (e : Event) × (call_event load item.origin ≡ Some e)
@@ -66,10 +62,10 @@ class-true load earlier item plain each here event class stored makes is known =
     by (storing control on free out) =
         let m = made load item event makes in
         let packet : is_packet item ≡ true =
-            ap (holds_packet item.origin) out ∙ call_packet load item.origin m.0 m.1 in
+        ap (holds_packet item.origin) out ∙ call_packet load item.origin m.0 m.1 in
         agree-class (events_before load earlier) (calls_before load earlier) event class
-            (agree-here load earlier item plain each
-            (clear load earlier item each here packet on free)) is known
+        (agree-here load earlier item plain each
+        (clear load earlier item each here packet on free)) is known
 
 each-true : (load : Load) (earlier : List Item) → HasNoBreaks load →
     EachItem (IsPlaced load) earlier → EachItem (IsClassTrue load) earlier

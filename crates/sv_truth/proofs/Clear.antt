@@ -47,17 +47,17 @@ pub clear : (load : Load) (earlier : List Item) (item : Item) → EachItem (IsPl
 clear load [] item each here packet on lost = inl (refl, refl)
 clear load (o ∷ rest) item each here packet on lost =
     elim (is_overflow o.origin) as (λ b. is_overflow o.origin ≡ b → IsClear load (o ∷ rest) item) [
-  | false ↦ λ other.
-      let owes : false ≡ owes_overflow load (o ∷ rest) item =
+      | false ↦ λ other.
+          let owes : false ≡ owes_overflow load (o ∷ rest) item =
           sym other ∙ here.next.overflow
           ∙ ap (λ b. owes_overflow load (cond b rest (o ∷ rest)) item) other in
-      let none : nat_lt 0 (pending_at (o ∷ rest)) ≡ false =
+          let none : nat_lt 0 (pending_at (o ∷ rest)) ≡ false =
           sym (owes
           ∙ ap (λ b. b && is_on load (o ∷ rest) && nat_lt 0 (pending_at (o ∷ rest))) packet
           ∙ ap (λ b. b && nat_lt 0 (pending_at (o ∷ rest))) on) in
-      inl (none-pending (pending_at (o ∷ rest)) none, other)
-  | true ↦ λ over. told over (fate load rest o each.1.next.outcome)
-] refl
+          inl (none-pending (pending_at (o ∷ rest)) none, other)
+      | true ↦ λ over. told over (fate load rest o each.1.next.outcome)
+    ] refl
   where
     told : is_overflow o.origin ≡ true → Fate load rest o → IsClear load (o ∷ rest) item
     told over (handling control out) = let plain : is_control load o.origin ≡ false =
@@ -66,7 +66,7 @@ clear load (o ∷ rest) item each here packet on lost =
         is_on-off load rest o (start_off_control load o.origin control) off in absurd cc
     told over (refusing control was out) =
         let now : is_after_refused_overflow (o ∷ rest) ≡ true =
-            ap (λ b. b && is_refused o.outcome) over ∙ ap is_refused out in
+        ap (λ b. b && is_refused o.outcome) over ∙ ap is_refused out in
         absurd cc
     told over (storing control was free out) = inr (record {
       overflow = o;

@@ -1,5 +1,6 @@
 -- Contexts through gaps: what the events that were sent name at a tick is true of all calls.
 use Rattle.std.proofs.Common.{◌≡◌, ℕ, zero, suc, ◌<◌, ◌≤◌, Bool, true, false, not, ◌&&◌, ◌||◌, cond}
+use Rattle.std.proofs.Common.{rules}
 use Rattle.std.proofs.Common.{Some, None, List, [], ◌∷◌, ◌++◌, map, refl, sym, ap, subst, ◌∙◌}
 use Rattle.std.proofs.Common.{append_assoc, append-nil, arith, ◌⊎◌, inl, inr}
 use Rattle.std.specs.Prelude.{nat_lt, nat_le, replicate}
@@ -9,8 +10,6 @@ use Rattle.sv_packet.specs.declared.event.Event.TheVariants as events
 use Rattle.sv_packet.specs.declared.event.TimedEvent.{TimedEvent}
 use Rattle.sv_workload.specs.Load.{Load}
 use Rattle.sv_journal.specs.declared.journal.Origin.{Origin}
-use Rattle.sv_journal.specs.declared.journal.Origin.TheVariants.{Call, Sync, Reply, Overflow}
-use Rattle.sv_journal.specs.declared.journal.Origin.TheVariants.{Command}
 use Rattle.sv_journal.specs.declared.journal.Outcome.TheVariants.{Stored}
 use Rattle.sv_journal.specs.declared.journal.Item.{Item}
 use Rattle.sv_journal.specs.Items.{latest_first, is_sync, is_overflow, is_stored, is_packet}
@@ -19,7 +18,8 @@ use Rattle.sv_journal.specs.Items.{is_after_refused_overflow}
 use Rattle.sv_journal.specs.Legal.{EachItem, IsLegal, is_control}
 use Rattle.sv_journal.specs.Stream.{is_synced, events_before, sent_events}
 use Rattle.sv_journal.proofs.Shared.{last_moment-stored, last_moment-other}
-use Rattle.sv_core.proofs.Shared.{Fate, IsPlaced, and_no, by_test, clash, event-told, events-kept, at_time}
+use Rattle.sv_core.proofs.Shared.{Fate, IsPlaced, and_no, by_test, clash, event-told, events-kept}
+use Rattle.sv_core.proofs.Shared.{at_time}
 use Rattle.sv_core.proofs.Shared.{fate, handling, ignoring, nops-told, overflow_plain, placed}
 use Rattle.sv_core.proofs.Shared.{refusing, storing}
 use Rattle.sv_context.specs.declared.context.Context.TheVariants.{Gap}
@@ -97,31 +97,35 @@ sent-step load earlier item here (storing control on free out) sent =
         AreSent load (item ∷ earlier)
     by false s none sync =
         let empty : events_before load (item ∷ earlier) ≡ [] =
-            events-kept load earlier item
-            (ap (λ b. is_stored item.outcome && b) none ∙ and_no (is_stored item.outcome))
-            ∙ unsynced load earlier none in
+        events-kept load earlier item
+        (ap (λ b. is_stored item.outcome && b) none ∙ and_no (is_stored item.outcome))
+        ∙ unsynced load earlier none in
         record { up = rw empty refl; ends = inl empty }
     by true true synced sync =
         let nop : TimedEvent = at_time (last_moment earlier) events.Nop in
         let told : events_before load (item ∷ earlier) ≡ events_before load earlier ++
-            replicate 5 nop = nops-told load earlier item stored synced sync in
+        replicate 5 nop = nops-told load earlier item stored synced sync in
         let last : last_moment (item ∷ earlier) ≡ last_moment earlier =
-            last_moment-other earlier item
-            (ap (λ b. is_stored item.outcome && not b) sync ∙ and_no (is_stored item.outcome)) in
+        last_moment-other earlier item
+        (ap (λ b. is_stored item.outcome && not b) sync ∙ and_no (is_stored item.outcome)) in
         record {
           up = rw (told, last)
               (up_to-append (last_moment earlier) (events_before load earlier)
               (replicate 5 nop) sent.up (up-many 5 (last_moment earlier) nop (omega arith)));
-          ends = inr
-              (events_before load earlier ++ replicate 4 nop, nop, told
-              ∙ five (events_before load earlier) nop, sym last);
+          ends = inr (
+            events_before load earlier ++ replicate 4 nop,
+            nop,
+            told
+                ∙ five (events_before load earlier) nop,
+            sym last,
+          );
         }
     by true false synced sync =
         let e : TimedEvent = at_time item.moment (event_of load item) in
         let told : events_before load (item ∷ earlier) ≡ events_before load earlier ++ e ∷ [] =
-            event-told load earlier item stored synced sync in
+        event-told load earlier item stored synced sync in
         let last : last_moment (item ∷ earlier) ≡ item.moment =
-            last_moment-stored earlier item stored sync in
+        last_moment-stored earlier item stored sync in
         record {
           up = rw (told, last)
               (up_to-append item.moment (events_before load earlier) (e ∷ [])
@@ -166,10 +170,11 @@ until-before load earlier item tick before =
     (λ o. call_event load item.origin ≡ o →
     events_until (calls_before load (item ∷ earlier)) tick ≡
     events_until (calls_before load earlier) tick) [
-  | None ↦ λ none. ap (λ es. events_until es tick) (calls-kept load earlier item none)
-  | Some event ↦ λ some. ap (λ es. events_until es tick) (calls-more load earlier item event some)
-      ∙ until_later (calls_before load earlier) (at_time item.moment event) tick before
-] refl
+      | None ↦ λ none. ap (λ es. events_until es tick) (calls-kept load earlier item none)
+      | Some event ↦ λ some.
+          ap (λ es. events_until es tick) (calls-more load earlier item event some)
+          ∙ until_later (calls_before load earlier) (at_time item.moment event) tick before
+    ] refl
 
 -- an item that tells nothing
 true-same : (load : Load) (earlier : List Item) (item : Item) → IsPlaced load earlier item →
@@ -177,13 +182,12 @@ true-same : (load : Load) (earlier : List Item) (item : Item) → IsPlaced load 
     AreTrue load earlier → AreTrue load (item ∷ earlier)
 true-same load earlier item here was same before tick below named =
     let below_before : tick < last_time (events_before load earlier) =
-        subst (λ (n : ℕ). tick < n) (ap last_time same) below in
+    subst (λ (n : ℕ). tick < n) (ap last_time same) below in
     let named_before : IsNamed (context_at (events_before load earlier) tick) =
-        subst IsNamed (ap (λ es. context_at es tick) same) named in
-    ap (λ es. context_at es tick) same ∙ before tick below_before named_before
-        ∙ ap context_after
-        (sym (until-before load earlier item tick
-        (omega (arith, below_before, last-is load earlier was.ends, here.later.last))))
+    subst IsNamed (ap (λ es. context_at es tick) same) named in
+    ap (λ es. context_at es tick) same ∙ before tick below_before named_before ∙ ap context_after
+    (sym (until-before load earlier item tick
+    (omega (arith, below_before, last-is load earlier was.ends, here.later.last))))
 
 -- before the first event all is a gap
 gap-first : (e : TimedEvent) (es : List TimedEvent) (tick : ℕ) → tick < e.time →
@@ -198,8 +202,8 @@ later-many : (count : ℕ) (xs : List TimedEvent) (y e : TimedEvent) (tick : ℕ
 later-many zero xs y e tick below same = ap (λ es. context_at es tick) (append-nil (xs ++ y ∷ []))
 later-many (suc count) xs y e tick below same =
     ap (λ es. context_at es tick) (sym (append_assoc (xs ++ y ∷ []) (e ∷ []) (replicate count e)))
-        ∙ later-many count (xs ++ y ∷ []) e e tick (omega (arith, below, same)) refl
-        ∙ context_at-later xs y e tick below (omega (arith, same))
+    ∙ later-many count (xs ++ y ∷ []) e e tick (omega (arith, below, same)) refl
+    ∙ context_at-later xs y e tick below (omega (arith, same))
 
 true-nops : (load : Load) (earlier : List Item) (item : Item) → IsPlaced load earlier item →
     AreSent load earlier → events_before load (item ∷ earlier) ≡ events_before load earlier ++
@@ -227,16 +231,15 @@ true-nops load earlier item here was told before tick below named = by was.ends
         (replicate 4 (at_time (last_moment earlier) events.Nop)) tick till))
     by (inr (xs, y, whole, time)) =
         let same : context_at (events_before load (item ∷ earlier)) tick ≡
-            context_at (events_before load earlier) tick
+        context_at (events_before load earlier) tick
         = ap (λ es. context_at es tick)
-            (told ∙ ap (λ es. es ++ replicate 5 (at_time (last_moment earlier) events.Nop)) whole)
-            ∙ later-many 5 xs y (at_time (last_moment earlier) events.Nop) tick
-            (omega (arith, till, time)) time ∙ ap (λ es. context_at es tick) (sym whole) in
+        (told ∙ ap (λ es. es ++ replicate 5 (at_time (last_moment earlier) events.Nop)) whole)
+        ∙ later-many 5 xs y (at_time (last_moment earlier) events.Nop) tick
+        (omega (arith, till, time)) time ∙ ap (λ es. context_at es tick) (sym whole) in
         let end : last_time (events_before load earlier) ≡ last_moment earlier =
-            ap last_time whole ∙ last_time-more xs y ∙ time in
-        same ∙ before tick (omega (arith, till, end)) (subst IsNamed same named)
-            ∙ ap context_after
-            (sym (until-before load earlier item tick (omega (arith, till, here.later.last))))
+        ap last_time whole ∙ last_time-more xs y ∙ time in
+        same ∙ before tick (omega (arith, till, end)) (subst IsNamed same named) ∙ ap context_after
+        (sym (until-before load earlier item tick (omega (arith, till, here.later.last))))
 
 -- a stored packet that ends no gap, after some ticks
 gap_to-begins : (load : Load) (moment : ℕ) (o : Origin) → Begins o → is_sync o ≡ false →
@@ -247,11 +250,7 @@ gap_to-begins load moment o (inr start) other = ap (λ p. is_gap_to (event_at lo
 
 gap_to-over : (load : Load) (moment : ℕ) (o : Origin) → is_overflow o ≡ true →
     is_gap_to (event_at load moment o) ≡ true
-gap_to-over load moment (Overflow count) e = refl
-gap_to-over load moment (Call writer step) e = absurd cc
-gap_to-over load moment Sync e = absurd cc
-gap_to-over load moment (Reply kind index) e = absurd cc
-gap_to-over load moment (Command byte param) e = absurd cc
+gap_to-over = search rules
 
 -- the tick lies between the latest event and the packet
 true-between : (load : Load) (earlier : List Item) (item : Item) (tick : ℕ) (xs : List TimedEvent)
@@ -267,8 +266,8 @@ true-between : (load : Load) (earlier : List Item) (item : Item) (tick : ℕ) (x
 true-between load earlier item tick xs y plain each control on free out other was whole time told
     low high named =
     shown ∙ agree-context (events_before load earlier) (calls_before load earlier)
-        (agree-here load earlier item plain each.0 clears) (λ e. named.1 (shown ∙ e))
-        ∙ ap context_after (sym truth)
+    (agree-here load earlier item plain each.0 clears) (λ e. named.1 (shown ∙ e))
+    ∙ ap context_after (sym truth)
   where
     e : TimedEvent
     e = at_time item.moment (event_of load item)
@@ -326,8 +325,8 @@ true-between load earlier item tick xs y plain each control on free out other wa
     none (inl (empty, last)) = empty
     none (inr t) =
         let last : last_moment (t.overflow ∷ t.rest) ≡ t.overflow.moment =
-            last_moment-stored t.rest t.overflow t.stored
-            (overflow_plain load t.overflow.origin t.over).1 in
+        last_moment-stored t.rest t.overflow t.stored
+        (overflow_plain load t.overflow.origin t.over).1 in
         let here : last_moment earlier ≡ item.moment = ap last_moment t.whole ∙ last ∙ t.moment in
         absurd (omega (arith, low, high, here))
 
@@ -337,8 +336,7 @@ true-between load earlier item tick xs y plain each control on free out other wa
 
     truth : events_until (calls_before load (item ∷ earlier)) tick ≡
         events_of (calls_before load earlier)
-    truth = until-before load earlier item tick high
-        ∙ ap (map (λ (x : TimedEvent). x.event))
+    truth = until-before load earlier item tick high ∙ ap (map (λ (x : TimedEvent). x.event))
         (filter_all (λ (x : TimedEvent). nat_le x.time tick) (calls_before load earlier) all)
 
 true-packet : (load : Load) (earlier : List Item) (item : Item) → HasNoBreaks load →
@@ -365,16 +363,16 @@ true-packet load earlier item plain each control on free out other was told befo
     by (inr (xs, y, whole, time)) = elim (cases_lt tick (last_moment earlier)) [
       | inl low ↦
           let same : context_at (events_before load (item ∷ earlier)) tick ≡
-              context_at (events_before load earlier) tick
+          context_at (events_before load earlier) tick
           = ap (λ es. context_at es tick)
-              (told ∙ ap (λ es. es ++ at_time item.moment (event_of load item) ∷ []) whole)
-              ∙ context_at-later xs y (at_time item.moment (event_of load item)) tick
-              (omega (arith, low, time)) (omega (arith, time, each.1.later.last))
-              ∙ ap (λ es. context_at es tick) (sym whole) in
+          (told ∙ ap (λ es. es ++ at_time item.moment (event_of load item) ∷ []) whole)
+          ∙ context_at-later xs y (at_time item.moment (event_of load item)) tick
+          (omega (arith, low, time)) (omega (arith, time, each.1.later.last))
+          ∙ ap (λ es. context_at es tick) (sym whole) in
           let end : last_time (events_before load earlier) ≡ last_moment earlier =
-              ap last_time whole ∙ last_time-more xs y ∙ time in
+          ap last_time whole ∙ last_time-more xs y ∙ time in
           same ∙ before tick (omega (arith, low, end)) (subst IsNamed same named)
-              ∙ ap context_after (sym (until-before load earlier item tick till))
+          ∙ ap context_after (sym (until-before load earlier item tick till))
       | inr high ↦
           true-between load earlier item tick xs y plain each control on free out other was whole
           time told high till named
@@ -402,8 +400,8 @@ true-step load earlier item plain each (storing control on free out) was before 
         AreTrue load (item ∷ earlier)
     by false s none sync =
         let empty : events_before load (item ∷ earlier) ≡ events_before load earlier =
-            events-kept load earlier item
-            (ap (λ b. is_stored item.outcome && b) none ∙ and_no (is_stored item.outcome)) in
+        events-kept load earlier item
+        (ap (λ b. is_stored item.outcome && b) none ∙ and_no (is_stored item.outcome)) in
         true-same load earlier item each.1 was empty before
     by true true synced sync =
         true-nops load earlier item each.1 was

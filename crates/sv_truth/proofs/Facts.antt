@@ -1,5 +1,5 @@
 -- What items are by what became of them.
-use Rattle.std.proofs.Common.{◌≡◌, Bool, true, false, ◌&&◌, ◌||◌, List, [], ◌∷◌, ◌++◌, refl}
+use Rattle.std.proofs.Common.{◌≡◌, Bool, true, false, ◌&&◌, ◌||◌, List, [], ◌∷◌, ◌++◌, refl, rules}
 use Rattle.std.proofs.Common.{sym, ap, ◌∙◌}
 use Rattle.sv_workload.specs.Load.{Load}
 use Rattle.sv_journal.specs.declared.journal.Origin.{Origin}
@@ -27,11 +27,7 @@ stop_is_packet item stop = by item.origin item.outcome stop
 
 pub stop_not_control : (load : Load) (origin : Origin) → is_control load origin ≡ true →
     is_stop_reply origin ≡ false
-stop_not_control load (Call writer step) e = refl
-stop_not_control load Sync e = refl
-stop_not_control load (Reply kind index) e = absurd cc
-stop_not_control load (Overflow count) e = refl
-stop_not_control load (Command byte param) e = refl
+stop_not_control = search rules
 
 pub packet_no_overflow : (item : Item) → is_packet item ≡ true → is_overflow item.origin ≡ false
 packet_no_overflow item packet = by item.origin item.outcome packet
@@ -46,11 +42,7 @@ packet_no_overflow item packet = by item.origin item.outcome packet
 
 pub control_no_overflow : (load : Load) (origin : Origin) → is_control load origin ≡ true →
     is_overflow origin ≡ false
-control_no_overflow load (Call writer step) e = refl
-control_no_overflow load Sync e = refl
-control_no_overflow load (Reply kind index) e = refl
-control_no_overflow load (Overflow count) e = absurd cc
-control_no_overflow load (Command byte param) e = refl
+control_no_overflow = search rules
 
 -- what is stored, and neither a sync nor an overflow, is a packet
 pub stored_packet : (load : Load) (origin : Origin) → is_control load origin ≡ false →
@@ -99,4 +91,4 @@ unsynced load (i ∷ earlier) none =
     or_none (is_sync i.origin) (is_synced earlier) none in
     events-kept load earlier i
     (ap (λ b. is_stored i.outcome && b) before ∙ and_no (is_stored i.outcome))
-        ∙ unsynced load earlier before
+    ∙ unsynced load earlier before

@@ -1,5 +1,5 @@
 -- A stored call in the stream: the events that were sent before it, its own, and further ones.
-use Rattle.std.proofs.Common.{◌≡◌, ◌≢◌, ◌≤◌, true, false, ◌&&◌, cond, Option}
+use Rattle.std.proofs.Common.{◌≡◌, ◌≢◌, ◌≤◌, true, false, ◌&&◌, cond, Option, rules}
 use Rattle.std.proofs.Common.{Some, None, List, [], ◌∷◌, ◌++◌, reverse, refl, sym, ap, subst, ◌∙◌}
 use Rattle.std.proofs.Common.{append_assoc, append-nil}
 use Rattle.std.specs.Prelude.{option_map, option_to_list}
@@ -8,8 +8,6 @@ use Rattle.sv_packet.specs.declared.event.Event.{Event}
 use Rattle.sv_packet.specs.declared.event.TimedEvent.{TimedEvent}
 use Rattle.sv_workload.specs.Load.{Load}
 use Rattle.sv_journal.specs.declared.journal.Origin.{Origin}
-use Rattle.sv_journal.specs.declared.journal.Origin.TheVariants.{Call, Sync, Reply, Overflow}
-use Rattle.sv_journal.specs.declared.journal.Origin.TheVariants.{Command}
 use Rattle.sv_journal.specs.declared.journal.Item.{Item}
 use Rattle.sv_journal.specs.Items.{latest_first, is_sync, is_overflow, is_stored}
 use Rattle.sv_journal.specs.Items.{event_of}
@@ -29,8 +27,8 @@ parted : (before : List Item) (item : Item) (after : List Item) →
     latest_first (before ++ item ∷ after) ≡ latest_first after ++ item ∷ latest_first before
 parted before item after =
     reverse-append before (item ∷ after)
-        ∙ ap (λ (xs : List Item). xs ++ reverse before) (reverse-append (item ∷ []) after)
-        ∙ append_assoc (reverse after) (item ∷ []) (reverse before)
+    ∙ ap (λ (xs : List Item). xs ++ reverse before) (reverse-append (item ∷ []) after)
+    ∙ append_assoc (reverse after) (item ∷ []) (reverse before)
 
 at-place : (P : List Item → Item → Type 0) (items before after : List Item) (item : Item) →
     items ≡ before ++ item ∷ after → EachItem P (latest_first items) →
@@ -46,17 +44,13 @@ grown load [] earlier = ([], sym (append-nil (events_before load earlier)))
 grown load (i ∷ after) earlier =
     let (more, is) = grown load after earlier in
     let last : List TimedEvent =
-        cond (is_stored i.outcome && is_synced (after ++ earlier))
-        (told_by load (after ++ earlier) i) [] in
+    cond (is_stored i.outcome && is_synced (after ++ earlier))
+    (told_by load (after ++ earlier) i) [] in
     (more ++ last, ap (λ es. es ++ last) is ∙ append_assoc (events_before load earlier) more last)
 
 call-not-sync : (load : Load) (o : Origin) (event : Event) → call_event load o ≡ Some event →
     is_sync o ≡ false
-call-not-sync load (Call writer step) event is = refl
-call-not-sync load Sync event is = absurd cc
-call-not-sync load (Reply kind index) event is = refl
-call-not-sync load (Overflow count) event is = refl
-call-not-sync load (Command byte param) event is = refl
+call-not-sync = search rules
 
 -- what a call makes is what it tells
 record IsCallOf (load : Load) (item : Item) (event : TimedEvent) : Type 0 where
@@ -75,8 +69,11 @@ call-of load item event makes =
     by (making some over) (Some found) at e =
         let same : found ≡ event_of load item = cc in
         let one : at_time item.moment found ≡ event = cc in
-        record { made = sym one ∙ ap (at_time item.moment) same; other =
-            call-not-sync load item.origin found at }
+        record {
+          made = sym one ∙ ap (at_time item.moment) same;
+          other =
+              call-not-sync load item.origin found at;
+        }
     by (breaking none test) (Some found) at e = absurd cc
     by (idling none idle over) (Some found) at e = absurd cc
 
@@ -89,20 +86,22 @@ stored_call load items before event legal ring spellable call =
     let item : Item = call.item in
     let of = call-of load item event call.makes in
     let here =
-        at-place (IsPlaced load) items before call.after item call.stands
-        (placed load items legal) in
+    at-place (IsPlaced load) items before call.after item call.stands
+    (placed load items legal) in
     let said = at-place (IsSpellable load) items before call.after item call.stands spellable in
     let synced : is_synced (latest_first before) ≡ true =
-        synced-before load (latest_first before) item here.1 call.stored of.other
-        (how_far load (latest_first before) ring here.0 said.0) in
+    synced-before load (latest_first before) item here.1 call.stored of.other
+    (how_far load (latest_first before) ring here.0 said.0) in
     let told : events_before load (item ∷ latest_first before) ≡ sent_events load before ++
-        event ∷ [] =
-        event-told load (latest_first before) item call.stored synced of.other
-        ∙ ap (λ e. sent_events load before ++ e ∷ []) (sym of.made) in
-    let (more, all) = grown load (latest_first call.after) (item ∷ latest_first before) in
-    (more, ap (events_before load) (ap latest_first call.stands ∙ parted before item call.after)
-        ∙ all ∙ ap (λ es. es ++ more) told
-        ∙ append_assoc (sent_events load before) (event ∷ []) more)
+    event ∷ [] =
+    event-told load (latest_first before) item call.stored synced of.other
+    ∙ ap (λ e. sent_events load before ++ e ∷ []) (sym of.made) in
+    let (more, all) = grown load (latest_first call.after) (item ∷ latest_first before) in (
+      more,
+      ap (events_before load) (ap latest_first call.stands ∙ parted before item call.after)
+          ∙ all ∙ ap (λ es. es ++ more) told
+          ∙ append_assoc (sent_events load before) (event ∷ []) more,
+    )
 
 -- its class by the events before it is the one by all calls before it, or it is unknown
 pub class_told : (load : Load) (items before : List Item) (event : TimedEvent) (class : Class) →
@@ -111,4 +110,4 @@ pub class_told : (load : Load) (items before : List Item) (event : TimedEvent) (
     class_of (all_calls load before) event ≡ Some class
 class_told load items before event class legal plain call =
     (at-place (IsClassTrue load) items before call.after call.item call.stands
-        (classes_true load items legal plain)).1 event class call.stored call.makes
+    (classes_true load items legal plain)).1 event class call.stored call.makes

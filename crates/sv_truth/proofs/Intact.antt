@@ -18,13 +18,15 @@ use Rattle.sv_journal.specs.Legal.{EachItem, outcome_at}
 use Rattle.sv_journal.specs.Stream.{is_synced, events_before}
 use Rattle.sv_journal.proofs.Shared.{pending_at-refused, pending_at-other, is_on-start, is_on-other}
 use Rattle.sv_journal.proofs.Shared.{is_on-told}
-use Rattle.sv_core.proofs.Shared.{Fate, and_no, event-told, events-kept, fate, handling, ignoring, at_time}
+use Rattle.sv_core.proofs.Shared.{Fate, and_no, event-told, events-kept, fate, handling, ignoring}
+use Rattle.sv_core.proofs.Shared.{at_time}
 use Rattle.sv_core.proofs.Shared.{nops-told, refusing, start_off_control, storing, sync_is}
 use Rattle.sv_truth.specs.Truth.{call_event, calls_before}
 use Rattle.sv_truth.proofs.Facts.{packet_no_overflow, stop_is_packet, stop_not_control, unsynced}
 use Rattle.sv_truth.proofs.Agreeing.{Agree, IsBlank, IsIdle, agree-blank, agree-both, agree-idle}
 use Rattle.sv_truth.proofs.Agreeing.{blank-break, blank-idle, blank-none}
-use Rattle.sv_truth.proofs.Telling.{Telling, breaking, control_no_call, idle_nop, idling, making, HasNoBreaks}
+use Rattle.sv_truth.proofs.Telling.{Telling, breaking, control_no_call, idle_nop, idling, making}
+use Rattle.sv_truth.proofs.Telling.{HasNoBreaks}
 use Rattle.sv_truth.proofs.Telling.{no_packet_no_call, stop_breaks, telling}
 
 pub record IsIntact (load : Load) (earlier : List Item) : Type 0 where
@@ -81,9 +83,9 @@ intact-kept : (load : Load) (earlier : List Item) (item : Item) → is_stored it
     IsIntact load (item ∷ earlier)
 intact-kept load earlier item kept none same off intact =
     let events : events_before load (item ∷ earlier) ≡ events_before load earlier =
-        events-kept load earlier item (ap (λ b. b && is_synced earlier) kept) in
+    events-kept load earlier item (ap (λ b. b && is_synced earlier) kept) in
     let made : calls_before load (item ∷ earlier) ≡ calls_before load earlier =
-        calls-kept load earlier item none in
+    calls-kept load earlier item none in
     record {
       agree = λ empty. rw (events, made) (intact.agree (sym same ∙ empty));
       blank = λ empty now. rw events (intact.blank (sym same ∙ empty) (off now));
@@ -110,14 +112,14 @@ intact-told : (load : Load) (earlier : List Item) (item : Item) → HasNoBreaks 
     IsIntact load earlier → IsIntact load (item ∷ earlier)
 intact-told load earlier item plain (breaking none test) start on kept told intact =
     from-blank load (item ∷ earlier)
-        (subst IsBlank (sym told)
-        (blank-break (events_before load earlier) (at_time item.moment (event_of load item)) test))
+    (subst IsBlank (sym told)
+    (blank-break (events_before load earlier) (at_time item.moment (event_of load item)) test))
 intact-told load earlier item plain (making some other) start on kept told intact =
     let goes : is_break (event_of load item) ≡ false =
-        plain item.origin (event_of load item) some in
+    plain item.origin (event_of load item) some in
     let same : pending_at (item ∷ earlier) ≡ pending_at earlier =
-        pending_at-other earlier item (ap (λ b. b && is_stored item.outcome) other)
-        (ap (λ b. is_packet item && b) kept ∙ and_no (is_packet item)) in
+    pending_at-other earlier item (ap (λ b. b && is_stored item.outcome) other)
+    (ap (λ b. is_packet item && b) kept ∙ and_no (is_packet item)) in
     let now : is_on load (item ∷ earlier) ≡ true = stays-on load earlier item start on goes in
     record {
       agree = λ empty. rw (told, calls-more load earlier item (event_of load item) some)
@@ -127,10 +129,10 @@ intact-told load earlier item plain (making some other) start on kept told intac
     }
 intact-told load earlier item plain (idling none idle other) start on kept told intact =
     let same : pending_at (item ∷ earlier) ≡ pending_at earlier =
-        pending_at-other earlier item (ap (λ b. b && is_stored item.outcome) other)
-        (ap (λ b. is_packet item && b) kept ∙ and_no (is_packet item)) in
+    pending_at-other earlier item (ap (λ b. b && is_stored item.outcome) other)
+    (ap (λ b. is_packet item && b) kept ∙ and_no (is_packet item)) in
     let now : is_on load (item ∷ earlier) ≡ true =
-        stays-on load earlier item start on idle.goes_on in
+    stays-on load earlier item start on idle.goes_on in
     record {
       agree = λ empty. rw (told, calls-kept load earlier item none)
           (agree-idle (events_before load earlier) (calls_before load earlier)
@@ -144,11 +146,11 @@ intact-synced : (load : Load) (earlier : List Item) (item : Item) → HasNoBreak
 intact-synced load earlier item plain synced (handling control out) intact =
     let kept : is_stored item.outcome ≡ false = ap is_stored out in
     let same : pending_at (item ∷ earlier) ≡ pending_at earlier =
-        pending_at-other earlier item
-        (ap (λ b. is_overflow item.origin && b) kept ∙ and_no (is_overflow item.origin))
-        (ap (λ o. is_packet item && is_refused o) out ∙ and_no (is_packet item)) in
+    pending_at-other earlier item
+    (ap (λ b. is_overflow item.origin && b) kept ∙ and_no (is_overflow item.origin))
+    (ap (λ o. is_packet item && is_refused o) out ∙ and_no (is_packet item)) in
     intact-kept load earlier item kept (control_no_call load item.origin control) same
-        (by (is_start load item.origin) refl) intact
+    (by (is_start load item.origin) refl) intact
   where
     by : (t : Bool) → is_start load item.origin ≡ t → is_on load (item ∷ earlier) ≡ false →
         is_on load earlier ≡ false
@@ -159,11 +161,11 @@ intact-synced load earlier item plain synced (handling control out) intact =
 intact-synced load earlier item plain synced (ignoring control off out) intact =
     let kept : is_stored item.outcome ≡ false = ap is_stored out in
     let same : pending_at (item ∷ earlier) ≡ pending_at earlier =
-        pending_at-other earlier item
-        (ap (λ b. is_overflow item.origin && b) kept ∙ and_no (is_overflow item.origin))
-        (ap (λ o. is_packet item && is_refused o) out ∙ and_no (is_packet item)) in
+    pending_at-other earlier item
+    (ap (λ b. is_overflow item.origin && b) kept ∙ and_no (is_overflow item.origin))
+    (ap (λ o. is_packet item && is_refused o) out ∙ and_no (is_packet item)) in
     let events : events_before load (item ∷ earlier) ≡ events_before load earlier =
-        events-kept load earlier item (ap (λ b. b && is_synced earlier) kept) in
+    events-kept load earlier item (ap (λ b. b && is_synced earlier) kept) in
     record {
       agree = λ empty. agree-blank (events_before load (item ∷ earlier))
           (calls_before load (item ∷ earlier))
@@ -182,21 +184,21 @@ intact-synced load earlier item plain synced (refusing control on out) intact =
     by : (t : Bool) → is_packet item ≡ t → IsIntact load (item ∷ earlier)
     by true packet =
         let more : pending_at (item ∷ earlier) ≡ 1 + pending_at earlier =
-            pending_at-refused earlier item (packet_no_overflow item packet) packet
-            (ap is_refused out) in
+        pending_at-refused earlier item (packet_no_overflow item packet) packet
+        (ap is_refused out) in
         record {
           agree = λ empty. absurd (omega (arith, more, empty));
           blank = λ empty off. absurd (omega (arith, more, empty));
         }
     by false packet =
         let same : pending_at (item ∷ earlier) ≡ pending_at earlier =
-            pending_at-other earlier item
-            (ap (λ b. is_overflow item.origin && b) kept ∙ and_no (is_overflow item.origin))
-            (ap (λ b. b && is_refused item.outcome) packet) in
+        pending_at-other earlier item
+        (ap (λ b. is_overflow item.origin && b) kept ∙ and_no (is_overflow item.origin))
+        (ap (λ b. b && is_refused item.outcome) packet) in
         intact-kept load earlier item kept (no_packet_no_call load item out packet) same
-            (λ now. sym
-            (is_on-other load earlier item start (no_stop (is_stop_reply item.origin) refl)) ∙ now)
-            intact
+        (λ now. sym
+        (is_on-other load earlier item start (no_stop (is_stop_reply item.origin) refl)) ∙ now)
+        intact
       where
         no_stop : (t : Bool) → is_stop_reply item.origin ≡ t → is_stop_reply item.origin ≡ false
         no_stop false is = is
@@ -217,16 +219,17 @@ intact-synced load earlier item plain synced (storing control on lost out) intac
     by true sync =
         let is : item.origin ≡ Sync = sync_is item.origin sync in
         let same : pending_at (item ∷ earlier) ≡ pending_at earlier =
-            pending_at-other earlier item
-            (ap (λ b. b && is_stored item.outcome) (ap is_overflow is))
-            (ap (λ o. is_packet item && is_refused o) out ∙ and_no (is_packet item)) in
+        pending_at-other earlier item
+        (ap (λ b. b && is_stored item.outcome) (ap is_overflow is))
+        (ap (λ o. is_packet item && is_refused o) out ∙ and_no (is_packet item)) in
         let now : is_on load (item ∷ earlier) ≡ true =
-            is_on-other load earlier item start (ap is_stop_reply is) ∙ on in
+        is_on-other load earlier item start (ap is_stop_reply is) ∙ on in
         let nop : TimedEvent = at_time (last_moment earlier) Nop in
         record {
-          agree = λ empty. rw
-              (nops-told load earlier item stored synced sync,
-              calls-kept load earlier item (ap (call_event load) is))
+          agree = λ empty. rw (
+            nops-told load earlier item stored synced sync,
+            calls-kept load earlier item (ap (call_event load) is),
+          )
               (agree-many 5 (events_before load earlier) (calls_before load earlier) nop idle_nop
               (intact.agree (sym same ∙ empty)));
           blank = λ empty off. absurd cc;
@@ -241,9 +244,9 @@ intact-step load earlier item plain is intact = by (is_synced earlier) refl
     by true synced = intact-synced load earlier item plain synced (fate load earlier item is) intact
     by false none =
         let events : events_before load (item ∷ earlier) ≡ [] =
-            events-kept load earlier item
-            (ap (λ b. is_stored item.outcome && b) none ∙ and_no (is_stored item.outcome))
-            ∙ unsynced load earlier none in
+        events-kept load earlier item
+        (ap (λ b. is_stored item.outcome && b) none ∙ and_no (is_stored item.outcome))
+        ∙ unsynced load earlier none in
         from-blank load (item ∷ earlier) (subst IsBlank (sym events) blank-none)
 
 -- what becomes of each item is what the items before it make of it

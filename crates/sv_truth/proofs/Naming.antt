@@ -10,7 +10,7 @@ use Rattle.sv_journal.specs.declared.journal.Item.{Item}
 use Rattle.sv_journal.specs.Legal.{IsLegal}
 use Rattle.sv_journal.specs.Stream.{stream_of, sent_events, IsCalm}
 use Rattle.sv_core.proofs.Shared.{packets_as, spellable, times_as}
-use Rattle.sv_truth.specs.Truth.{AreContextsTrue, TellsClasses, TellsContexts}
+use Rattle.sv_truth.specs.Truth.{AreContextsTrue, TellsClasses, TellsContexts, TellsTruly}
 use Rattle.sv_truth.proofs.Contexts.{contexts_true}
 use Rattle.sv_truth.proofs.Fronts.{class_told, stored_call}
 use Rattle.sv_truth.proofs.Telling.{no_breaks}
@@ -22,7 +22,7 @@ told_as : (load : Load) (items : List Item) (packets : List Packet) (end : End) 
 told_as load items packets end legal l calm reads =
     ap timed (packets_as load items packets end legal l reads) ∙ times_as load items legal l calm
 
-pub contexts : (load : Load) (items : List Item) → IsLegal load items → IsWithinLimits load →
+contexts : (load : Load) (items : List Item) → IsLegal load items → IsWithinLimits load →
     IsCalm load items → TellsContexts load items
 contexts load items legal l calm packets end reads =
     subst (AreContextsTrue load items) (sym (told_as load items packets end legal l calm reads))
@@ -30,7 +30,7 @@ contexts load items legal l calm packets end reads =
 
 -- a stored call is the event after those that were sent before it, and its class there is the one
 -- by all calls
-pub classes : (load : Load) (items : List Item) → IsLegal load items → IsWithinLimits load →
+classes : (load : Load) (items : List Item) → IsLegal load items → IsWithinLimits load →
     IsCalm load items → TellsClasses load items
 classes load items legal l calm packets end reads before event call =
     let (more, is) = stored_call load items before event legal l.ring_least
@@ -39,3 +39,10 @@ classes load items legal l calm packets end reads before event call =
       told_as load items packets end legal l calm reads ∙ is,
       λ class. class_told load items before event class legal (no_breaks load l) call,
     )
+
+pub truly : (load : Load) (items : List Item) → IsLegal load items → IsWithinLimits load →
+    TellsTruly load items
+truly load items legal l = record {
+  contexts = contexts load items legal l;
+  classes = classes load items legal l;
+}

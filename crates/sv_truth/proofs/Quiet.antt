@@ -18,7 +18,8 @@ use Rattle.sv_journal.specs.Items.{is_on, pending_at, last_moment}
 use Rattle.sv_journal.specs.Legal.{EachItem, is_control}
 use Rattle.sv_journal.proofs.Shared.{pending_at-refused, pending_at-other, is_on-off, is_on-other}
 use Rattle.sv_journal.proofs.Shared.{last_moment-stored, last_moment-other}
-use Rattle.sv_core.proofs.Shared.{Fate, IsLater, IsPlaced, and_no, fate, handling, ignoring, at_time}
+use Rattle.sv_core.proofs.Shared.{Fate, IsLater, IsPlaced, and_no, fate, handling, ignoring}
+use Rattle.sv_core.proofs.Shared.{at_time}
 use Rattle.sv_core.proofs.Shared.{no_ticks, or_last, previous, previous-other, previous-over}
 use Rattle.sv_core.proofs.Shared.{refusing, start_off_control, storing, sync_is, ticks-cons}
 use Rattle.sv_core.proofs.Shared.{ticks_in}
@@ -47,16 +48,16 @@ calls-step load earlier i later up =
     elim (call_event load i.origin) as
     (λ o. call_event load i.origin ≡ o →
     AreUpTo (ticks_in load (i ∷ earlier)) (calls_before load (i ∷ earlier))) [
-  | None ↦ λ none. subst (AreUpTo (ticks_in load (i ∷ earlier)))
-      (sym (calls-kept load earlier i none)) before
-  | Some event ↦ λ some.
-      let now : i.moment ≡ ticks_in load (i ∷ earlier) =
+      | None ↦ λ none. subst (AreUpTo (ticks_in load (i ∷ earlier)))
+          (sym (calls-kept load earlier i none)) before
+      | Some event ↦ λ some.
+          let now : i.moment ≡ ticks_in load (i ∷ earlier) =
           later.told (call_no_overflow load i.origin event some) in
-      subst (AreUpTo (ticks_in load (i ∷ earlier))) (sym (calls-more load earlier i event some))
-      (up_to-append (ticks_in load (i ∷ earlier)) (calls_before load earlier)
+          subst (AreUpTo (ticks_in load (i ∷ earlier))) (sym (calls-more load earlier i event some))
+          (up_to-append (ticks_in load (i ∷ earlier)) (calls_before load earlier)
           (at_time i.moment event ∷ []) before
           (up_to-one (ticks_in load (i ∷ earlier)) (at_time i.moment event) (omega (arith, now))))
-] refl
+    ] refl
   where
     before : AreUpTo (ticks_in load (i ∷ earlier)) (calls_before load earlier)
     before =
@@ -130,7 +131,7 @@ quiet-same : (load : Load) (earlier : List Item) (item : Item) → is_stored ite
     AreUpTo (last_moment (item ∷ earlier)) (calls_before load (item ∷ earlier))
 quiet-same load earlier item kept none up =
     let last : last_moment (item ∷ earlier) ≡ last_moment earlier =
-        last_moment-other earlier item (ap (λ b. b && not (is_sync item.origin)) kept) in
+    last_moment-other earlier item (ap (λ b. b && not (is_sync item.origin)) kept) in
     rw (last, calls-kept load earlier item none) up
 
 quiet-step : (load : Load) (earlier : List Item) (item : Item) →
@@ -145,14 +146,14 @@ quiet-step load earlier item each (storing control on lost out) before =
         restarts-sync load earlier item sync in absurd cc
     by false other calm =
         let last : last_moment (item ∷ earlier) ≡ item.moment =
-            last_moment-stored earlier item (ap is_stored out) other in
+        last_moment-stored earlier item (ap is_stored out) other in
         up_to_more (ticks_in load (item ∷ earlier)) (last_moment (item ∷ earlier))
-            (calls_before load (item ∷ earlier))
-            (omega (arith, clock_here load earlier item each.1.later, last))
-            (calls_in_clock load (item ∷ earlier) each)
+        (calls_before load (item ∷ earlier))
+        (omega (arith, clock_here load earlier item each.1.later, last))
+        (calls_in_clock load (item ∷ earlier) each)
 quiet-step load earlier item each (ignoring control off out) before = λ empty now calm.
     let wrong : is_on load (item ∷ earlier) ≡ false =
-        is_on-off load earlier item (start_off_control load item.origin control) off in absurd cc
+    is_on-off load earlier item (start_off_control load item.origin control) off in absurd cc
 quiet-step load earlier item each (refusing control on out) before =
     λ empty now calm. by (is_packet item) (is_sync item.origin) refl refl empty calm
   where
@@ -160,24 +161,27 @@ quiet-step load earlier item each (refusing control on out) before =
         pending_at (item ∷ earlier) ≡ 0 → is_restarting load (item ∷ earlier) ≡ false →
         AreUpTo (last_moment (item ∷ earlier)) (calls_before load (item ∷ earlier))
     by true s packet sync empty calm =
-        absurd (omega
-        (arith, empty, pending_at-refused earlier item (packet_no_overflow item packet) packet
-        (ap is_refused out)))
+        absurd (omega (
+          arith,
+          empty,
+          pending_at-refused earlier item (packet_no_overflow item packet) packet
+              (ap is_refused out),
+        ))
     by false true packet sync empty calm = let wrong : is_restarting load (item ∷ earlier) ≡ true =
         restarts-sync load earlier item sync in absurd cc
     by false false packet sync empty calm =
         let over : is_overflow item.origin ≡ true =
-            no_packet_over load item control out packet sync in
+        no_packet_over load item control out packet sync in
         let kept : is_stored item.outcome ≡ false = ap is_stored out in
         let same : pending_at (item ∷ earlier) ≡ pending_at earlier =
-            pending_at-other earlier item
-            (ap (λ b. is_overflow item.origin && b) kept ∙ and_no (is_overflow item.origin))
-            (ap (λ b. b && is_refused item.outcome) packet) in
+        pending_at-other earlier item
+        (ap (λ b. is_overflow item.origin && b) kept ∙ and_no (is_overflow item.origin))
+        (ap (λ b. b && is_refused item.outcome) packet) in
         let calm_before : is_restarting load earlier ≡ false =
-            ap (λ o. option_map_or (λ p. is_start load p || is_sync p) o false)
-            (sym (previous-over earlier item over)) ∙ calm in
+        ap (λ o. option_map_or (λ p. is_start load p || is_sync p) o false)
+        (sym (previous-over earlier item over)) ∙ calm in
         quiet-same load earlier item kept (no_packet_no_call load item out packet)
-            (before (sym same ∙ empty) on calm_before)
+        (before (sym same ∙ empty) on calm_before)
 quiet-step load earlier item each (handling control out) before =
     λ empty now calm. by (is_start load item.origin)
     (is_restarting load earlier) refl refl empty now calm
@@ -191,23 +195,23 @@ quiet-step load earlier item each (handling control out) before =
         AreUpTo (last_moment (item ∷ earlier)) (calls_before load (item ∷ earlier))
     by true r start was empty now calm =
         let wrong : is_restarting load (item ∷ earlier) ≡ true =
-            restarts-by load earlier item other ∙ ap (λ b. b || is_sync item.origin) start in
+        restarts-by load earlier item other ∙ ap (λ b. b || is_sync item.origin) start in
         absurd cc
     by false true start was empty now calm =
         let plain : is_control load item.origin ≡ false =
-            begins-plain load item.origin (begins load earlier item each.1 other was) in
+        begins-plain load item.origin (begins load earlier item each.1 other was) in
         absurd cc
     by false false start was empty now calm =
         let kept : is_stored item.outcome ≡ false = ap is_stored out in
         let same : pending_at (item ∷ earlier) ≡ pending_at earlier =
-            pending_at-other earlier item
-            (ap (λ b. is_overflow item.origin && b) kept ∙ and_no (is_overflow item.origin))
-            (ap (λ o. is_packet item && is_refused o) out ∙ and_no (is_packet item)) in
+        pending_at-other earlier item
+        (ap (λ b. is_overflow item.origin && b) kept ∙ and_no (is_overflow item.origin))
+        (ap (λ o. is_packet item && is_refused o) out ∙ and_no (is_packet item)) in
         let on : is_on load earlier ≡ true =
-            sym (is_on-other load earlier item start (stop_not_control load item.origin control))
-            ∙ now in
+        sym (is_on-other load earlier item start (stop_not_control load item.origin control))
+        ∙ now in
         quiet-same load earlier item kept (control_no_call load item.origin control)
-            (before (sym same ∙ empty) on was)
+        (before (sym same ∙ empty) on was)
 
 pub quiet : (load : Load) (earlier : List Item) → EachItem (IsPlaced load) earlier →
     IsQuiet load earlier

@@ -64,9 +64,9 @@ back load earlier item here goes (ignoring control off out) mid =
 back load earlier item here goes (handling control out) mid =
     let other : is_overflow item.origin ≡ false = control_no_overflow load item.origin control in
     let start : is_start load item.origin ≡ false =
-        by_test (is_start load item.origin)
-        (λ s. clash (is_restarting load (item ∷ earlier))
-        (restarts-by load earlier item other ∙ ap (λ b. b || is_sync item.origin) s) mid.calm) in
+    by_test (is_start load item.origin)
+    (λ s. clash (is_restarting load (item ∷ earlier))
+    (restarts-by load earlier item other ∙ ap (λ b. b || is_sync item.origin) s) mid.calm) in
     record {
       before = record {
         none = sym
@@ -89,15 +89,18 @@ back load earlier item here goes (refusing control on out) mid =
 
     by : (p s : Bool) → is_packet item ≡ p → is_sync item.origin ≡ s → IsBack load earlier item
     by true s packet sync =
-        absurd (omega
-        (arith, mid.none, pending_at-refused earlier item (packet_no_overflow item packet) packet
-        (ap is_refused out)))
+        absurd (omega (
+          arith,
+          mid.none,
+          pending_at-refused earlier item (packet_no_overflow item packet) packet
+              (ap is_refused out),
+        ))
     by false true packet sync =
         absurd (clash (is_restarting load (item ∷ earlier))
         (restarts-sync load earlier item sync) mid.calm)
     by false false packet sync =
         let over : is_overflow item.origin ≡ true =
-            no_packet_over load item control out packet sync in
+        no_packet_over load item control out packet sync in
         record {
           before = record {
             none = sym
@@ -113,13 +116,13 @@ back load earlier item here goes (refusing control on out) mid =
 back load earlier item here goes (storing control on free out) mid =
     let test : is_break (event_of load item) ≡ false = goes (ap is_stored out) in
     let other : is_overflow item.origin ≡ false =
-        by_test (is_overflow item.origin)
-        (λ over. clash (is_break (event_of load item))
-        (overflow_breaks load item.moment item.origin over) test) in
+    by_test (is_overflow item.origin)
+    (λ over. clash (is_break (event_of load item))
+    (overflow_breaks load item.moment item.origin over) test) in
     let sync : is_sync item.origin ≡ false =
-        by_test (is_sync item.origin)
-        (λ s. clash (is_restarting load (item ∷ earlier))
-        (restarts-sync load earlier item s) mid.calm) in
+    by_test (is_sync item.origin)
+    (λ s. clash (is_restarting load (item ∷ earlier))
+    (restarts-sync load earlier item s) mid.calm) in
     record {
       before = record {
         none = sym
@@ -141,7 +144,7 @@ held-back : (load : Load) (middle before : List Item) →
 held-back load [] before each goes mid = tt
 held-back load (i ∷ middle) before each goes mid =
     let b = back load (middle ++ before) i each.1 goes.0
-        (fate load (middle ++ before) i each.1.next.outcome) mid in
+    (fate load (middle ++ before) i each.1.next.outcome) mid in
     (b.held, held-back load middle before each.0 goes.1 b.before)
 
 -- directly before a packet of a segment
@@ -201,9 +204,9 @@ told-first : (load : Load) (o : Item) (middle : List Item) (before : List Item) 
 told-first load o middle before item goes t =
     let same : o ≡ t.overflow = first t.whole in
     clash (is_break (event_of load o))
-        (overflow_breaks load o.moment o.origin
-        (subst (λ (x : Item). is_overflow x.origin ≡ true) (sym same) t.over))
-        (goes.0 (subst (λ (x : Item). is_stored x.outcome ≡ true) (sym same) t.stored))
+    (overflow_breaks load o.moment o.origin
+    (subst (λ (x : Item). is_overflow x.origin ≡ true) (sym same) t.over))
+    (goes.0 (subst (λ (x : Item). is_stored x.outcome ≡ true) (sym same) t.stored))
   where
     first : {a b : Item} {xs ys : List Item} → a ∷ xs ≡ b ∷ ys → a ≡ b
     first e = cc
@@ -223,5 +226,5 @@ pub segment_held : (load : Load) (items : List Item) (after middle before : List
     IsOfSegment load item → HoldsNoBreak load middle → HoldsCalls load middle
 segment_held load items after middle before item legal whole of goes =
     held load middle before item
-        (each_after (IsPlaced load) after (item ∷ (middle ++ before))
-        (subst (EachItem (IsPlaced load)) whole (placed load items legal))) of goes
+    (each_after (IsPlaced load) after (item ∷ (middle ++ before))
+    (subst (EachItem (IsPlaced load)) whole (placed load items legal))) of goes

@@ -56,9 +56,9 @@ idle_time load moment =
     (λ b. IsIdle
     (cond b (events.SystimeUs (micros_at load.clock moment % 2 ^ 32) (micros_at load.clock moment / 2 ^ 32))
     (events.SystimeCycles (moment % period load)))) [
-  | true ↦ record { goes_on = refl; no_role = refl; no_task = refl }
-  | false ↦ record { goes_on = refl; no_role = refl; no_task = refl }
-]
+      | true ↦ record { goes_on = refl; no_role = refl; no_task = refl }
+      | false ↦ record { goes_on = refl; no_role = refl; no_task = refl }
+    ]
 
 idle_task : (load : Load) (task : Option Task) →
     IsIdle (option_map_or (task_info load) task events.Nop)
@@ -102,25 +102,9 @@ telling load moment (Overflow count) = breaking refl refl
 telling load moment (Command byte param) = idling refl idle_nop refl
 
 -- the end of a recording is a break
-stop_kind : (load : Load) (moment : ℕ) (kind : Kind) (index : ℕ) →
-    is_stop_reply (Reply kind index) ≡ true → is_break (reply_event load moment kind index) ≡ true
-stop_kind load moment kinds.TraceStop index is = refl
-stop_kind load moment kinds.TraceStart index is = refl
-stop_kind load moment kinds.Init index is = absurd cc
-stop_kind load moment kinds.Line index is = absurd cc
-stop_kind load moment kinds.Systime index is = absurd cc
-stop_kind load moment kinds.Task index is = absurd cc
-stop_kind load moment kinds.Stack index is = absurd cc
-stop_kind load moment kinds.ModuleCount index is = absurd cc
-stop_kind load moment kinds.Module index is = absurd cc
-
 pub stop_breaks : (load : Load) (moment : ℕ) (origin : Origin) → is_stop_reply origin ≡ true →
     is_break (event_at load moment origin) ≡ true
-stop_breaks load moment (Reply kind index) is = stop_kind load moment kind index is
-stop_breaks load moment (Call writer step) is = absurd cc
-stop_breaks load moment Sync is = absurd cc
-stop_breaks load moment (Overflow count) is = absurd cc
-stop_breaks load moment (Command byte param) is = absurd cc
+stop_breaks = search rules
 
 -- a start or a stop makes no event
 pub call_not_control : (load : Load) (origin : Origin) (event : Event) →
@@ -157,18 +141,15 @@ pub control_no_call : (load : Load) (origin : Origin) → is_control load origin
 control_no_call load origin control =
     elim (call_event load origin) as
     (λ o. call_event load origin ≡ o → call_event load origin ≡ None) [
-  | None ↦ λ e. e
-  | Some event ↦
-      λ e. absurd (clash (is_control load origin) control (call_not_control load origin event e))
-] refl
+      | None ↦ λ e. e
+      | Some event ↦
+          λ e. absurd
+          (clash (is_control load origin) control (call_not_control load origin event e))
+    ] refl
 
 pub overflow_breaks : (load : Load) (moment : ℕ) (origin : Origin) → is_overflow origin ≡ true →
     is_break (event_at load moment origin) ≡ true
-overflow_breaks load moment (Overflow count) e = refl
-overflow_breaks load moment (Call writer step) e = absurd cc
-overflow_breaks load moment Sync e = absurd cc
-overflow_breaks load moment (Reply kind index) e = absurd cc
-overflow_breaks load moment (Command byte param) e = absurd cc
+overflow_breaks = search rules
 
 -- what a workload calls a break is one
 same_break : (event : Event) → load_break event ≡ is_break event
@@ -191,8 +172,4 @@ no_breaks load s (Command byte param) event is = absurd cc
 
 pub call_no_overflow : (load : Load) (origin : Origin) (event : Event) →
     call_event load origin ≡ Some event → is_overflow origin ≡ false
-call_no_overflow load (Call writer step) event is = refl
-call_no_overflow load Sync event is = absurd cc
-call_no_overflow load (Reply kind index) event is = absurd cc
-call_no_overflow load (Overflow count) event is = absurd cc
-call_no_overflow load (Command byte param) event is = absurd cc
+call_no_overflow = search rules

@@ -15,7 +15,7 @@ use Rattle.sv_journal.specs.declared.journal.Origin.{Origin}
 use Rattle.sv_journal.specs.declared.journal.Origin.TheVariants.{Call}
 use Rattle.sv_journal.specs.declared.journal.Item.{Item}
 use Rattle.sv_journal.specs.Items.{latest_first, is_stored}
-use Rattle.sv_journal.specs.Stream.{stream_of, sent_events}
+use Rattle.sv_journal.specs.Stream.{stream_of, sent_events, IsCalm}
 use Rattle.sv_context.specs.declared.context.Context.{Context}
 use Rattle.sv_context.specs.declared.context.Context.TheVariants.{Gap, Unknown}
 use Rattle.sv_context.specs.Context.{context_after}
@@ -92,3 +92,9 @@ TellsClasses load items =
     (more : List TimedEvent) × (timed packets ≡ sent_events load before ++ event ∷ more) ×
     ((class : Class) → class_of (sent_events load before) event ≡ Some class →
     class ≢ UnknownClass → class_of (all_calls load before) event ≡ Some class)
+
+-- where stored packets are less than a round of the counter apart (2 ^ 32 ticks), whatever the
+-- stream names is true of all calls
+pub record TellsTruly (load : Load) (items : List Item) : Type 0 where
+  pub contexts : IsCalm load items → TellsContexts load items
+  pub classes : IsCalm load items → TellsClasses load items

@@ -1,4 +1,4 @@
-//! What a recorder's stream names is true of all calls, those included that were refused or ignored.
+//! What a recorder's stream names is true of all calls, also of those that were refused or ignored.
 //!
 //! The contract above this crate is that of [`named_truly`]: each context and each latency that a
 //! report of the stream names is the one by all calls. It rests on [`segments_whole`]: between two

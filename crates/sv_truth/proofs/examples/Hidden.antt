@@ -29,7 +29,7 @@ use Rattle.sv_latency.specs.Class.{class_from, class_of, is_about}
 use Rattle.sv_core.specs.Sent.{sent_packets}
 use Rattle.sv_truth.specs.Truth.{all_calls, truth_at, IsNamed, AreContextsTrue, TellsClasses}
 use Rattle.sv_truth.specs.Truth.{TellsContexts}
-use Rattle.sv_truth.proofs.Naming.{classes, contexts}
+use Rattle.sv_truth.proofs.Naming.{truly}
 use Rattle.sv_truth.proofs.examples.Words.{AreSteps, limits, step, told}
 
 -- a start, eight marks and four calls more, a tick apart
@@ -118,10 +118,10 @@ names = (refl, refl, refl, refl)
 
 -- so it is by the law, of whatever packets the stream is read as
 true_contexts : TellsContexts load items
-true_contexts = contexts load items legal within calm
+true_contexts = (truly load items legal within).contexts calm
 
 true_classes : TellsClasses load items
-true_classes = classes load items legal within calm
+true_classes = (truly load items legal within).classes calm
 
 -- the contexts of ticks with the gaps left out: a context goes on until the next event
 abbrev carried_at : List TimedEvent → ℕ → Context
@@ -134,8 +134,8 @@ carried all =
     absurd cc
 
 -- a stream without the overflow would name the task while the interrupt ran
-silent : AreContextsTrue load items (told 9 (events.TaskStart 1) ∷ told 12 (events.TaskStart 2) ∷ [])
-    → ⊥
+silent : AreContextsTrue load items
+    (told 9 (events.TaskStart 1) ∷ told 12 (events.TaskStart 2) ∷ []) → ⊥
 silent all =
     let said : Task 1 ≡ Isr 5 = all 10 (omega arith) ((λ e. absurd cc), (λ e. absurd cc)) in
     absurd cc

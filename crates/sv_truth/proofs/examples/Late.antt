@@ -69,8 +69,8 @@ differs = (refl, refl)
 untrue : TellsContexts load items → ⊥
 untrue tells =
     let said : Isr 5 ≡ Task 1 =
-        tells (sent_packets load items) Clean (read_as load items legal within refl) 3 (omega arith)
-        ((λ e. absurd cc), (λ e. absurd cc)) in
+    tells (sent_packets load items) Clean (read_as load items legal within refl) 3 (omega arith)
+    ((λ e. absurd cc), (λ e. absurd cc)) in
     absurd cc
 
 -- and it is not calm

@@ -17,6 +17,9 @@ use Rattle.sv_journal.proofs.Shared.{load_of}
 abbrev pub step : ℕ → Event → Step
 step advance event = record { advance = advance; act = acts.Event event }
 
+abbrev pub stop : ℕ → Step
+stop advance = record { advance = advance; act = acts.Stop }
+
 abbrev pub told : ℕ → Event → TimedEvent
 told time event = record { time = time; event = event }
 

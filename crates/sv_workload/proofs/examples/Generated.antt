@@ -1,6 +1,6 @@
 -- Generated workloads worked out by hand, and the texts that say the same.
 use Rattle.std.specs.Prelude.{codes}
-use Rattle.std.proofs.Common.{◌≡◌, [], ◌∷◌, refl}
+use Rattle.std.proofs.Common.{◌≡◌, ℕ, List, [], ◌∷◌, ◌++◌, refl}
 use Rattle.sv_prim.specs.Shrink.{shrunk}
 use Rattle.sv_packet.specs.declared.event.Event.TheVariants.{TaskStart}
 use Rattle.sv_workload.specs.declared.load.Act.TheVariants.{Event}
@@ -24,12 +24,21 @@ no_round = refl
 two_rounds : rounds 2 ≡ Step 0 64 ∷ Read 128 ∷ Step 0 64 ∷ Read 128 ∷ []
 two_rounds = refl
 
-one : IsWorkload
-    (codes "ring 4096\ntask 536870916 1 536875008 1024 0 A\ntask 536870920 2 536876032 1024 0 B\nwriter\n0 start\n60 run 536870916\nschedule\nstep 0\n")
-    (generated_load 1)
+-- what stands before the steps
+abbrev head : List ℕ
+head =
+    codes "ring 4096\n"
+    ++ codes "task 536870916 1 536875008 1024 0 A\n"
+    ++ codes "task 536870920 2 536876032 1024 0 B\n"
+    ++ codes "writer\n0 start\n"
+
+one : IsWorkload (head ++ codes "60 run 536870916\nschedule\nstep 0\n") (generated_load 1)
 one = record { good = refl; meaning = refl }
 
-eight : IsWorkload
-    (codes "ring 4096\ntask 536870916 1 536875008 1024 0 A\ntask 536870920 2 536876032 1024 0 B\nwriter\n0 start\n61 ready 536870916\n1 ready 536870920\n76 isr-exit\n246 run 536870916\n183 mark 5\n154 idle\n202 run 536870920\n248 run 536870920\nschedule\nstep 0\n")
-    (generated_load 8)
+abbrev steps : List ℕ
+steps =
+    codes "61 ready 536870916\n1 ready 536870920\n76 isr-exit\n246 run 536870916\n"
+    ++ codes "183 mark 5\n154 idle\n202 run 536870920\n248 run 536870920\n"
+
+eight : IsWorkload (head ++ (steps ++ codes "schedule\nstep 0\n")) (generated_load 8)
 eight = record { good = refl; meaning = refl }

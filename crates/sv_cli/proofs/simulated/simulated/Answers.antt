@@ -21,8 +21,6 @@ returns-in-Ok-simulate-clause-run c =
     record {
       says = c.in-Ok.ensures.ok;
       simulated = simulated;
-      names = λ calm. (
-        c.named_truly.ensures.contexts load items simulated.legal c.writers.ensures.limits calm,
-        c.named_truly.ensures.classes load items simulated.legal c.writers.ensures.limits calm,
-      );
+      names =
+          c.named_truly.ensures load items simulated.legal c.writers.ensures.limits;
     }

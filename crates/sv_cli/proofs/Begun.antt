@@ -40,7 +40,7 @@ nothing_taken =
       sound = nothing_sound;
     }
 
-consumes_none : (left : Option (List ℕ)) → Consumes left left []
+pub consumes_none : (left : Option (List ℕ)) → Consumes left left []
 consumes_none None = tt
 consumes_none (Some bytes) = refl
 

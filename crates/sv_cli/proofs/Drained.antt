@@ -133,7 +133,7 @@ pub taken_up : {T E : Type 0} (result : Result T E) → is_err result ≡ false 
 taken_up (Ok x) e = refl
 taken_up (Err x) e = absurd cc
 
-on_ok : {T E : Type 0} {P : Type 0} (result : Result T E) → is_ok result ≡ true → OnOk result P → P
+pub on_ok : {T E : Type 0} {P : Type 0} (result : Result T E) → is_ok result ≡ true → OnOk result P → P
 on_ok (Ok x) e p = p
 on_ok (Err x) e p = absurd cc
 

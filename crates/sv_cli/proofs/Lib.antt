@@ -9,3 +9,5 @@ pub mod Files
 pub mod SameWords
 pub mod Timelines
 pub mod Reported
+pub mod Lives
+pub mod Sizes

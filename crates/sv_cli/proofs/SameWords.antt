@@ -1,19 +1,23 @@
 -- The words of a command say which one it is: those of two commands are the same only where what
 -- their answers mean is.
 use Rattle.std.proofs.Common.{◌≡◌, ℕ, Bool, false, List, [], ◌∷◌, Option, Some, None}
-use Rattle.std.proofs.Common.{refl, sym, ap, ◌∙◌, subst}
+use Rattle.std.proofs.Common.{refl, sym, ap, ◌∙◌, subst, arith}
 use Rattle.std.specs.Prelude.{codes, IfSome, if◌then◌else◌}
+use Rattle.std.specs.Str.Parse.{digits_value}
+use Rattle.std.proofs.lemmas.Fmt.{decimal_is_IsNumeral}
+use Rattle.std.specs.Borrow.{Bor}
 use Rattle.std.specs.Str.{bytes_eq}
 use Rattle.sv_workload.specs.Load.{Load}
 use Rattle.sv_journal.specs.declared.journal.Item.{Item}
 use Rattle.sv_cli.specs.declared.command.Command.{Command}
 use Rattle.sv_cli.specs.declared.command.Command.TheVariants.{Events, Check, Timeline, Report}
-use Rattle.sv_cli.specs.declared.command.Command.TheVariants.{Simulate, Record}
+use Rattle.sv_cli.specs.declared.command.Command.TheVariants.{Live, Simulate, Record}
 use Rattle.sv_cli.specs.declared.status.Status.{Status}
 use Rattle.sv_cli.specs.Answer.{IsShown}
 use Rattle.sv_cli.specs.AnswersTo.{AnswersTo}
-use Rattle.sv_cli.specs.Command.{words_of, file_of, is_unwritten}
+use Rattle.sv_cli.specs.Command.{words_of, HasNumbers, IsCommand, file_of, is_unwritten}
 use Rattle.sv_cli.specs.Devices.{HasTaken, OfFile}
+use Rattle.sv_cli.specs.Live.{IsLive}
 use Rattle.sv_cli.specs.Recorded.{IsRecorded, IsRecordingText, IsReportText}
 use Rattle.sv_cli.specs.Recorded.{is_unwritten as is_run_unwritten}
 use Rattle.sv_cli.specs.Text.{Text}
@@ -25,6 +29,7 @@ use Rattle.sv_cli.specs.commands.Report.{report_text}
 -- what a command is about: the text of a recording, or what it makes of a journal
 data Kind : Type 0 where
   shows : Text → Kind
+  lives : ℕ → Kind
   simulates : Kind
   records : Kind
 
@@ -33,8 +38,14 @@ kind (Events file) = Some (shows events_text)
 kind (Check file) = Some (shows check_text)
 kind (Timeline file) = Some (shows timeline_text)
 kind (Report file) = Some (shows report_text)
+kind (Live size file) = Some (lives size)
 kind (Simulate file) = Some simulates
 kind (Record file) = Some records
+
+-- the number that the first of some words is
+abbrev number_in : List (List ℕ) → ℕ
+number_in [] = 0
+number_in (word ∷ rest) = digits_value 10 word
 
 -- the same, by the words
 abbrev kind_by : List (List ℕ) → Option Kind
@@ -44,26 +55,39 @@ kind_by (word ∷ rest) =
     else if bytes_eq (codes "check") word then Some (shows check_text)
     else if bytes_eq (codes "timeline") word then Some (shows timeline_text)
     else if bytes_eq (codes "report") word then Some (shows report_text)
+    else if bytes_eq (codes "live") word then Some (lives (number_in rest))
     else if bytes_eq (codes "simulate") word then Some simulates
     else if bytes_eq (codes "record") word then Some records
     else None
 
-kind_is : (c : Command) → kind_by (words_of c) ≡ kind c
-kind_is (Events file) = refl
-kind_is (Check file) = refl
-kind_is (Timeline file) = refl
-kind_is (Report file) = refl
-kind_is (Simulate file) = refl
-kind_is (Record file) = refl
+kind_is : (c : Command) → HasNumbers c → kind_by (words_of c) ≡ kind c
+kind_is (Events file) few = refl
+kind_is (Check file) few = refl
+kind_is (Timeline file) few = refl
+kind_is (Report file) few = refl
+kind_is (Live size file) few =
+    ap (λ (n : ℕ). Some (lives n)) (decimal_is_IsNumeral size (omega (arith, few.1))).1
+kind_is (Simulate file) few = refl
+kind_is (Record file) few = refl
 
-same_kind : (a b : Command) → words_of a ≡ words_of b → kind a ≡ kind b
-same_kind a b e = sym (kind_is a) ∙ ap kind_by e ∙ kind_is b
+-- two commands have the same words, and numbers within their bounds
+abbrev pub AreSame : Command → Command → Type 0
+AreSame a b = (words_of a ≡ words_of b) × HasNumbers a × HasNumbers b
+
+same_kind : (a b : Command) → AreSame a b → kind a ≡ kind b
+same_kind a b (e, few, small) = sym (kind_is a few) ∙ ap kind_by e ∙ kind_is b small
+
+pub same_words : (words : List (Bor (List ℕ))) (a b : Command) → IsCommand words a
+    → IsCommand words b → AreSame a b
+same_words words a b (one, few) (two, small) = (sym one ∙ two, few, small)
 
 -- what an answer means, by the kind
 abbrev Means : Option Kind → List ℕ → List ℕ → Option (List ℕ) → Option (List ℕ) → List Item
     → Status → Type 0
 Means (Some (shows text)) file taken old new items status =
     IsShown text taken (taken ≡ file) old new status × (items ≡ [])
+Means (Some (lives size)) file taken old new items status =
+    IsLive size taken (taken ≡ file) old new status × (items ≡ [])
 Means (Some simulates) file taken old new items status =
     IsRecorded IsReportText file taken old new items status
 Means (Some records) file taken old new items status =
@@ -78,6 +102,7 @@ module _ (file taken : List ℕ) (old new : Option (List ℕ)) (items : List Ite
   means (Check name) a = a
   means (Timeline name) a = a
   means (Report name) a = a
+  means (Live size name) a = a
   means (Simulate name) a = a
   means (Record name) a = a
 
@@ -87,10 +112,11 @@ module _ (file taken : List ℕ) (old new : Option (List ℕ)) (items : List Ite
   meant (Check name) a = a
   meant (Timeline name) a = a
   meant (Report name) a = a
+  meant (Live size name) a = a
   meant (Simulate name) a = a
   meant (Record name) a = a
 
-  pub same_answer : (a b : Command) → words_of a ≡ words_of b → AnswersTo a file taken old new items
+  pub same_answer : (a b : Command) → AreSame a b → AnswersTo a file taken old new items
       status → AnswersTo b file taken old new items status
   same_answer a b e x = meant b
       (subst (λ (k : Option Kind). Means k file taken old new items status) (same_kind a b e)
@@ -107,11 +133,12 @@ file_is (Events file) = refl
 file_is (Check file) = refl
 file_is (Timeline file) = refl
 file_is (Report file) = refl
+file_is (Live size file) = refl
 file_is (Simulate file) = refl
 file_is (Record file) = refl
 
-pub same_file : (a b : Command) → words_of a ≡ words_of b → file_of a ≡ file_of b
-same_file a b e = sym (file_is a) ∙ ap last_word e ∙ file_is b
+pub same_file : (a b : Command) → AreSame a b → file_of a ≡ file_of b
+same_file a b (e, few, small) = sym (file_is a) ∙ ap last_word e ∙ file_is b
 
 abbrev unwritten_of : Option Kind → Status → Bool
 unwritten_of (Some simulates) status = is_run_unwritten status
@@ -124,10 +151,11 @@ unwritten_is (Events name) status = refl
 unwritten_is (Check name) status = refl
 unwritten_is (Timeline name) status = refl
 unwritten_is (Report name) status = refl
+unwritten_is (Live size name) status = refl
 unwritten_is (Simulate name) status = refl
 unwritten_is (Record name) status = refl
 
-pub same_unwritten : (a b : Command) (status : Status) → words_of a ≡ words_of b
+pub same_unwritten : (a b : Command) (status : Status) → AreSame a b
     → is_unwritten a status ≡ is_unwritten b status
 same_unwritten a b status e =
     sym (unwritten_is a status) ∙ ap (λ (k : Option Kind). unwritten_of k status) (same_kind a b e) ∙
@@ -137,7 +165,7 @@ same_unwritten a b status e =
 pub answered_as : (a b : Command) (held : List ℕ → Option (List ℕ))
     (left left_now old new new_now : Option (List ℕ)) (items items_now : List Item)
     (status status_now : Status)
-    → words_of a ≡ words_of b → left_now ≡ left → new_now ≡ new → items_now ≡ items → status_now ≡
+    → AreSame a b → left_now ≡ left → new_now ≡ new → items_now ≡ items → status_now ≡
     status
     → OfFile (held (file_of a)) left (λ file taken. AnswersTo a file taken old new items status)
     → OfFile (held (file_of b)) left_now

@@ -1,9 +1,10 @@
 -- The commands of a command line.
-use Rattle.std.specs.Prelude.{◌≡◌, ℕ, Bool, false, List, [], ◌∷◌, map, codes}
+use Rattle.std.specs.Prelude.{◌≡◌, ℕ, ◌≤◌, Bool, false, List, [], ◌∷◌, map, codes}
 use Rattle.std.specs.Borrow.{Bor}
+use Rattle.std.specs.Fmt.{decimal}
 use Rattle.sv_cli.specs.declared.command.Command.{Command}
 use Rattle.sv_cli.specs.declared.command.Command.TheVariants.{Events, Check, Timeline, Report}
-use Rattle.sv_cli.specs.declared.command.Command.TheVariants.{Simulate, Record}
+use Rattle.sv_cli.specs.declared.command.Command.TheVariants.{Live, Simulate, Record}
 use Rattle.sv_cli.specs.declared.status.Status.{Status}
 use Rattle.sv_cli.specs.Recorded.{is_unwritten as is_run_unwritten}
 
@@ -13,12 +14,22 @@ words_of (Events file) = codes "events" ∷ file.now ∷ []
 words_of (Check file) = codes "check" ∷ file.now ∷ []
 words_of (Timeline file) = codes "timeline" ∷ file.now ∷ []
 words_of (Report file) = codes "report" ∷ file.now ∷ []
+words_of (Live size file) = codes "live" ∷ decimal size ∷ file.now ∷ []
 words_of (Simulate file) = codes "simulate" ∷ file.now ∷ []
 words_of (Record file) = codes "record" ∷ file.now ∷ []
 
+-- the size of a piece of a recording that comes piece by piece
+abbrev pub IsSize : ℕ → Type 0
+IsSize size = (1 ≤ size) × (size ≤ 65536)
+
+-- the numbers of a command are within their bounds
+abbrev pub HasNumbers : Command → Type 0
+HasNumbers (Live size file) = IsSize size
+HasNumbers command = Unit {0}
+
 -- the words are these of a command
 abbrev pub IsCommand : List (Bor (List ℕ)) → Command → Type 0
-IsCommand words command = map (λ word. word.now) words ≡ words_of command
+IsCommand words command = (map (λ word. word.now) words ≡ words_of command) × HasNumbers command
 
 -- the name of the file that a command reads
 abbrev pub file_of : Command → List ℕ
@@ -26,6 +37,7 @@ file_of (Events file) = file.now
 file_of (Check file) = file.now
 file_of (Timeline file) = file.now
 file_of (Report file) = file.now
+file_of (Live size file) = file.now
 file_of (Simulate file) = file.now
 file_of (Record file) = file.now
 

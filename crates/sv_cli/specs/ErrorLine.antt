@@ -9,7 +9,8 @@ use Rattle.sv_cli.specs.declared.status.Status.TheVariants.{TooLong, NoMemory}
 -- the forms of all commands
 abbrev pub usage_line : List ℕ
 usage_line =
-    codes "usage: sysview events F | check F | timeline F | report F | simulate W | record W\n"
+    codes "usage: sysview events F | check F | timeline F | report F | live N F | simulate W | "
+    ++ codes "record W\n"
 
 -- one line for each status but Done
 abbrev pub error_line : Status → List ℕ

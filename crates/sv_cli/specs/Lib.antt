@@ -8,4 +8,5 @@ pub mod Answer
 pub mod Recorded
 pub mod AnswersTo
 pub mod Scan
+pub mod Live
 pub mod Reading

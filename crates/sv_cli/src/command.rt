@@ -1,6 +1,10 @@
 //! The commands, by the words of a command line.
-ghost use Rattle.std.specs.Prelude.{◌≡◌, MatchOption};
+ghost use Rattle.std.specs.Prelude.{◌≡◌, ℕ, MatchOption, IfSome, IfNone};
+ghost use Rattle.std.specs.Fmt.{decimal};
+ghost use Rattle.sv_cli.specs.Command.{IsSize};
 ghost use Rattle.sv_cli.specs.ErrorLine.{usage_line};
+
+use itoa::Buffer;
 
 /// What the words of a command line ask for, with the name of the file that it reads.
 #[derive(Clone, Copy, Debug, PartialEq, Eq)]
@@ -16,6 +20,9 @@ pub enum Command<'a> {
     /// `report F`: how much the recording F holds, its system, modules, loads and tasks, and the end
     /// line.
     Report(&'a str),
+    /// `live N F`: the same again and again, as the recording F comes by pieces of N bytes: after each
+    /// piece how many bytes there are so far, and the report of them. N is from 1 to 65536.
+    Live { size: u32, file: &'a str },
     /// `simulate W`: the report of the recording that the workload W gives.
     Simulate(&'a str),
     /// `record W`: the recording that the workload W gives.
@@ -26,7 +33,27 @@ pub enum Command<'a> {
 pub fn usage() -> &'static str
     ensures { result.now ≡ usage_line }
 {
-    "usage: sysview events F | check F | timeline F | report F | simulate W | record W\n"
+    "usage: sysview events F | check F | timeline F | report F | live N F | simulate W | record W\n"
+}
+
+/// The size of a piece that a word says: from 1 to 65536, in decimal with no zero before it.
+fn size_of_piece(word: &str) -> Option<u32>
+    ensures some { IfSome result (λ n. (decimal n ≡ word.now) × IsSize n) }
+    ensures none { IfNone result ((n : ℕ) → IsSize n → decimal n ≡ word.now → ⊥) }
+{
+    let Ok(size) = word.parse::<u32>() else {
+        return None;
+    };
+    if size < 1 {
+        return None;
+    }
+    if 65536 < size {
+        return None;
+    }
+    if Buffer::new().format(size) != word {
+        return None;
+    }
+    Some(size)
 }
 
 impl<'a> Command<'a> {
@@ -44,6 +71,10 @@ impl<'a> Command<'a> {
             ["check", file] => Some(Command::Check(file)),
             ["timeline", file] => Some(Command::Timeline(file)),
             ["report", file] => Some(Command::Report(file)),
+            ["live", size, file] => match size_of_piece(size) {
+                Some(size) => Some(Command::Live { size, file }),
+                None => None,
+            },
             ["simulate", file] => Some(Command::Simulate(file)),
             ["record", file] => Some(Command::Record(file)),
             _ => None,

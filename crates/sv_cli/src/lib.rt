@@ -9,6 +9,7 @@
 
 mod command;
 mod commands;
+mod live;
 mod reading;
 mod recording;
 mod reporting;

@@ -24,7 +24,7 @@ use sv_stream::{Decoder, End, StreamFault};
 const PIECE: usize = 4096;
 
 /// The most bytes of a recording, so that its times stay below 2^64.
-const MOST_BYTES: u64 = 1 << 33;
+pub const MOST_BYTES: u64 = 1 << 33;
 
 /// Why a scan ends before its recording does.
 #[derive(Clone, Copy, Debug, PartialEq, Eq)]
@@ -77,7 +77,7 @@ fn drain<V: View>(
 }
 
 /// The bytes that came into a buffer.
-fn piece_of(buf: &[u8], count: usize) -> &[u8]
+pub fn piece_of(buf: &[u8], count: usize) -> &[u8]
     requires { count ≤ length buf.now }
     ensures front { result.now ≡ take count buf.now }
     ensures bytes { AreBytes result.now }
@@ -235,7 +235,7 @@ fn scan_open<S: Source, K: Sink, V: View + Drop>(
 }
 
 /// How a command ends whose scan came to this.
-fn status_of(ending: Result<End, Cut>) -> Status
+pub fn status_of(ending: Result<End, Cut>) -> Status
     ensures { result ≡ status_for ending }
 {
     match ending {

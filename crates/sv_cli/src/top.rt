@@ -3,7 +3,7 @@ ghost use Rattle.std.specs.Prelude.{◌≡◌, ◌≢◌, ◌↔◌, [], true};
 ghost use Rattle.sv_base.specs.Causes.{Blames, BlamesLast, one_more};
 ghost use Rattle.sv_cli.specs.declared.command.Command.{Command as Asked};
 ghost use Rattle.sv_cli.specs.AnswersTo.{AnswersTo};
-ghost use Rattle.sv_cli.specs.Command.{IsCommand, file_of, is_unwritten};
+ghost use Rattle.sv_cli.specs.Command.{IsCommand, HasNumbers, file_of, is_unwritten};
 ghost use Rattle.sv_cli.specs.Devices.{OfFile, Says};
 ghost use Rattle.sv_cli.specs.ErrorLine.{error_line};
 
@@ -14,6 +14,7 @@ use crate::commands::record::record;
 use crate::commands::report::Summary;
 use crate::commands::simulate::simulate;
 use crate::commands::timeline::Runs;
+use crate::live::live_file;
 use crate::scan::scan_file;
 use crate::status::{Status, say};
 use std::alloc::Global;
@@ -28,7 +29,8 @@ fn answer<S: Source, K: Sink>(
     out: &mut K,
     journal: &mut Journal,
 ) -> Status
-    requires { journal.old.items ≡ [] }
+    requires empty { journal.old.items ≡ [] }
+    requires numbers { HasNumbers command }
     ensures answered { OfFile (S.held src.old (file_of command.entry)) (S.left src.new)
         (λ file taken.
         AnswersTo command.entry file taken (K.written out.old) (K.written out.new)
@@ -45,6 +47,7 @@ fn answer<S: Source, K: Sink>(
         Command::Check(name) => scan_file(alloc, Check::new(), name, src, out),
         Command::Timeline(name) => scan_file(alloc, Runs::new(alloc), name, src, out),
         Command::Report(name) => scan_file(alloc, Summary::new(alloc), name, src, out),
+        Command::Live { size, file } => live_file(alloc, size, file, src, out),
         Command::Simulate(name) => simulate(alloc, name, src, out, journal),
         Command::Record(name) => record(alloc, name, src, out, journal),
     }

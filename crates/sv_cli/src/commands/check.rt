@@ -31,7 +31,7 @@ impl Check {
 }
 
 /// Appends words, a number, and the line's end.
-fn put_numbered(words: &str, number: u64, lines: &mut Vec<u8>) -> Result<(), AllocError>
+pub fn put_numbered(words: &str, number: u64, lines: &mut Vec<u8>) -> Result<(), AllocError>
     ensures { OnOk result (lines.new.items ≡ lines.old.items ++ numbered words.now number) }
 {
     lines.extend_from_slice(words.as_bytes())?;

@@ -1,8 +1,9 @@
-/* The commands `events F`, `check F` and `timeline F` in plain C, with the same text and the same
- * exit codes, as fast as it gets without threads or vector instructions. It reads through one buffer by read(2),
- * writes through another by write(2), and a packet is decoded without a look at the end of what is
- * held, behind which zeros stand, so that what reads past it stops there.
- * Usage: baseline events F | baseline check F | baseline timeline F */
+/* The commands `events F`, `check F`, `timeline F` and `report F` in plain C, with the same text
+ * and the same exit codes, as fast as it gets without threads or vector instructions. It reads
+ * through one buffer by read(2), writes through another by write(2), and a packet is decoded
+ * without a look at the end of what is held, behind which zeros stand, so that what reads past it
+ * stops there.
+ * Usage: baseline events F | baseline check F | baseline timeline F | baseline report F */
 #define _POSIX_C_SOURCE 200809L
 #include <fcntl.h>
 #include <stdbool.h>
@@ -12,6 +13,7 @@
 #include <unistd.h>
 #include "out.h"
 #include "packet.h"
+#include "report.h"
 #include "runs.h"
 
 /* HELD is more than the longest packet, 65554 bytes. PAST is more than a packet without its text or
@@ -233,6 +235,7 @@ int main(int argc, char **argv) {
     if (argc != 3) return 2;
     bool events = strcmp(argv[1], "events") == 0;
     bool timeline = strcmp(argv[1], "timeline") == 0;
+    bool report = strcmp(argv[1], "report") == 0;
     begin_runs();
     int file = open(argv[2], O_RDONLY);
     if (file < 0) return 3;
@@ -269,12 +272,14 @@ int main(int argc, char **argv) {
             packets++;
             if (events) at = put_event(at, time, &p);
             else if (timeline) at = put_ended(at, time, &p);
+            else if (report) tell(time, &p);
         }
         if (code < 0 && came == 0) code = !body ? (zeros == 10 ? 0 : 7) : from == end ? 0 : 6;
     }
     at = reserve(at);
     if (timeline && runs.last > 0) at = reserve(put_run(at, runs.start, runs.last, runs.run));
-    if (!events && !timeline) {
+    if (report) at = put_report(at);
+    if (!events && !timeline && !report) {
         at = put_long(put_text(at, "packets "), packets);
         at = put_long(put_text(at, "\nticks "), time);
         *at++ = '\n';

@@ -1,8 +1,8 @@
-/* The commands `events F`, `check F` and `timeline F` in plain C, with the same text and the same exit codes, as
- * one writes it who takes no risk: each byte is read behind a comparison with the end of what is
- * held, and nothing is read or written that is not wanted. It reads through one buffer by read(2)
- * and writes through another by write(2).
- * Usage: careful events F | careful check F | careful timeline F */
+/* The commands `events F`, `check F`, `timeline F` and `report F` in plain C, with the same text
+ * and the same exit codes, as one writes it who takes no risk: each byte is read behind a
+ * comparison with the end of what is held, and nothing is read or written that is not wanted. It
+ * reads through one buffer by read(2) and writes through another by write(2).
+ * Usage: careful events F | careful check F | careful timeline F | careful report F */
 #define _POSIX_C_SOURCE 200809L
 #include <fcntl.h>
 #include <stdbool.h>
@@ -12,6 +12,7 @@
 #include <unistd.h>
 #include "out.h"
 #include "packet.h"
+#include "report.h"
 #include "runs.h"
 
 /* More than the longest packet, 65554 bytes. */
@@ -216,6 +217,7 @@ int main(int argc, char **argv) {
     if (argc != 3) return 2;
     bool events = strcmp(argv[1], "events") == 0;
     bool timeline = strcmp(argv[1], "timeline") == 0;
+    bool report = strcmp(argv[1], "report") == 0;
     begin_runs();
     int file = open(argv[2], O_RDONLY);
     if (file < 0) return 3;
@@ -253,12 +255,14 @@ int main(int argc, char **argv) {
             packets++;
             if (events) at = put_event(at, time, &p);
             else if (timeline) at = put_ended(at, time, &p);
+            else if (report) tell(time, &p);
         }
         if (code < 0 && came == 0) code = !body ? (zeros == 10 ? 0 : 7) : from == end ? 0 : 6;
     }
     at = reserve(at);
     if (timeline && runs.last > 0) at = reserve(put_run(at, runs.start, runs.last, runs.run));
-    if (!events && !timeline) {
+    if (report) at = put_report(at);
+    if (!events && !timeline && !report) {
         at = put_number(put_text(at, "packets "), packets);
         at = put_number(put_text(at, "\nticks "), time);
         *at++ = '\n';

@@ -44,7 +44,8 @@ pub report_of_run : (load : Load) (items : List Item) (bytes slice report made :
     → made ≡ report → IsReportText load items made
 report_of_run load items bytes slice report made same sent are end_is reports is =
     report_made load items slice made (same ∙ sent) are
-    (λ packets end reads. end_is packets end (subst (λ (bs : List ℕ). Reads bs packets end) same reads))
+    (λ packets end reads.
+    end_is packets end (subst (λ (bs : List ℕ). Reads bs packets end) same reads))
     (λ packets end reads. is ∙ reports packets end reads)
 
 -- how a journal's bytes end

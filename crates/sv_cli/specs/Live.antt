@@ -70,10 +70,10 @@ pub record IsToldBefore (size : ℕ) (front : List ℕ) (whole : ℕ) (old new :
 
 -- a part of the reports of the bytes that were taken is written
 pub record IsToldPart (size : ℕ) (taken : List ℕ) (pieces : ℕ) (old new : Option (List ℕ)) : Type 0
-    where
-  pub text : List ℕ
-  pub reports : AreReports size taken pieces text
-  pub part : AppendsPart old new text
+  where
+    pub text : List ℕ
+    pub reports : AreReports size taken pieces text
+    pub part : AppendsPart old new text
 
 -- the answer over the bytes that were taken, of which so many whole pieces are their front
 abbrev pub IsLiveAnswer : ℕ → List ℕ → List ℕ → ℕ → ℕ → Type 0 → Option (List ℕ)

@@ -1,4 +1,5 @@
--- What `record` and `simulate` make of a workload's text, and what they answer where a device fails.
+-- What `record` and `simulate` make of a workload's text, and what they answer where a device
+-- fails.
 use Rattle.std.specs.Prelude.{◌≡◌, ℕ, ◌^◌, ◌<◌, ◌≤◌, Bool, true, false, List, [], ◌++◌, length}
 use Rattle.std.specs.Prelude.{Option, Some, codes}
 use Rattle.std.specs.Io.KnownBytes.{Appends}
@@ -97,7 +98,8 @@ IsRecorded makes file taken old new items (TooLong limit) =
     (limit ≡ most_of_workload) × (most_of_workload < length taken) × IsNothing old new items
 IsRecorded makes file taken old new items NoMemory = IsNothing old new items
 IsRecorded makes file taken old new items other =
-    (taken ≡ file) × (length file ≤ most_of_workload) × IsTextRecorded makes file old new items other
+    (taken ≡ file) × (length file ≤ most_of_workload)
+    × IsTextRecorded makes file old new items other
 
 -- why a text has no simulation
 abbrev pub IsUnsimulated : List ℕ → Unsimulated → Type 0

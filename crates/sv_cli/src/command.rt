@@ -14,14 +14,14 @@ pub enum Command<'a> {
     /// `check F`: how many packets the recording F has, the time of the last one in ticks, and the
     /// end line.
     Check(&'a str),
-    /// `timeline F`: a line for each run of ticks of the recording F with equal contexts, and the end
-    /// line.
+    /// `timeline F`: a line for each run of ticks of the recording F with equal contexts, and the
+    /// end line.
     Timeline(&'a str),
-    /// `report F`: how much the recording F holds, its system, modules, loads and tasks, and the end
-    /// line.
+    /// `report F`: how much the recording F holds, its system, modules, loads and tasks, and the
+    /// end line.
     Report(&'a str),
-    /// `live N F`: the same again and again, as the recording F comes by pieces of N bytes: after each
-    /// piece how many bytes there are so far, and the report of them. N is from 1 to 65536.
+    /// `live N F`: the same again and again, as the recording F comes by pieces of N bytes: after
+    /// each piece how many bytes there are so far, and their report. N is from 1 to 65536.
     Live { size: u32, file: &'a str },
     /// `simulate W`: the report of the recording that the workload W gives.
     Simulate(&'a str),

@@ -34,12 +34,7 @@ fn report_of_bytes(alloc: Global, bytes: &[u8]) -> Result<Vec<u8>, NoMemory>
 }
 
 /// Simulates the workload that the text says, and writes the report of the bytes that are sent.
-pub fn report_run<K: Sink>(
-    alloc: Global,
-    text: &[u8],
-    out: &mut K,
-    journal: &mut Journal,
-) -> Status
+pub fn report_run<K: Sink>(alloc: Global, text: &[u8], out: &mut K, journal: &mut Journal) -> Status
     requires short { length text.now ≤ 2 ^ 26 }
     requires empty { journal.old.items ≡ [] }
     ensures recorded { IsTextRecorded IsReportText text.now

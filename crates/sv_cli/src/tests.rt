@@ -132,13 +132,44 @@ fn nothing_is_read_after_damage(rt: HostRuntime) -> Result<(), Fail> {
     Ok(())
 }
 
+/// A recording of 12 bytes that comes by 6 at a time, over devices of which one call fails: call 1
+/// is that of begin, and call 4 finds the end.
+#[test]
+fn pieces_and_devices_that_fail(rt: HostRuntime) -> Result<(), Fail> {
+    let alloc = rt.alloc();
+    let file = synced(alloc, &[0x0a, 0x00])?;
+    let one = "after 6\npackets 0\nticks 0\nlost 0 in 0\nanomalies 0\nsystem - -\nend no-sync\n";
+    let two = "after 12\npackets 1\nticks 0\nlost 0 in 0\nanomalies 0\nsystem - -\nend clean\n";
+    for (read, write, status, lines, last) in [
+        (0u64, 0u64, Status::Done, one, two),
+        (1, 0, Status::ReadFault, "", ""),
+        (2, 0, Status::ReadFault, "", ""),
+        (3, 0, Status::ReadFault, one, ""),
+        (4, 0, Status::ReadFault, one, two),
+        (0, 1, Status::WriteFault, "", ""),
+        (0, 2, Status::WriteFault, one, ""),
+    ] {
+        let told = run(alloc, &["live", "6", "f"], &file, &[read], &[write])?;
+        assert_eq!(rt;
+            told.status,
+            status,
+            "with the read {read} and the write {write}"
+        );
+        assert!(rt;
+            is_text(&told, lines, last),
+            "with the read {read} and the write {write}"
+        );
+    }
+    Ok(())
+}
+
 /// Whether the words are no command, and the error sink has the usage line.
 fn is_usage(alloc: Global, words: &[&str]) -> Result<bool, Fail> {
     let run = run(alloc, words, &[], &[], &[])?;
     Ok(
         run.status == Status::Usage
             && run.err.bytes()
-                == b"usage: sysview events F | check F | timeline F | report F | simulate W | record W\n".as_slice(),
+                == b"usage: sysview events F | check F | timeline F | report F | live N F | simulate W | record W\n".as_slice(),
     )
 }
 
@@ -148,6 +179,9 @@ fn words_and_codes(rt: HostRuntime) -> Result<(), Fail> {
     assert!(rt; is_usage(alloc, &[])?);
     assert!(rt; is_usage(alloc, &["report"])?);
     assert!(rt; is_usage(alloc, &["simulate", "f", "f"])?);
+    for size in ["", "0", "01", "+1", "65537", "4294967297", "f"] {
+        assert!(rt; is_usage(alloc, &["live", size, "f"])?, "{size}");
+    }
     assert!(rt; is_usage(alloc, &["events"])?);
     assert!(rt; is_usage(alloc, &["events", "f", "f"])?);
     assert!(rt; is_usage(alloc, &["check"])?);

@@ -58,10 +58,13 @@ fn answer<S: Source, K: Sink>(
 /// `words` are those after the program's name. `events F`, `check F`, `timeline F` and `report F`
 /// read the file F from `src`, of at most 2^33 bytes, in pieces of 4096 bytes, and nothing after a
 /// piece that is damaged. `events` writes a line for each event to `out`, those of a piece at once,
-/// and an end line; `check` writes how many packets there are, the time of the last one, and the end
-/// line; `timeline` writes a line for each run of ticks with equal contexts as the runs end, those
-/// of a piece at once, then the last run's and the end line; `report` writes the report of all
-/// events. `simulate W` and `record W` read the workload W, of at most 2^26 bytes, and simulate it.
+/// and an end line; `check` writes how many packets there are, the time of the last one, and the
+/// end line; `timeline` writes a line for each run of ticks with equal contexts as the runs end,
+/// those of a piece at once, then the last run's and the end line; `report` writes the report of
+/// all events. `live N F` reads the same file by pieces of N bytes, and writes after each piece
+/// that has bytes how many there are so far and their report; the first that is damaged is the
+/// last.
+/// `simulate W` and `record W` read the workload W, of at most 2^26 bytes, and simulate it.
 /// `simulate` writes the report of the bytes that were sent, and `record` a line and these bytes;
 /// `journal` is then that of the run. A status other than Done is told to `err`, in one line; what
 /// `err` does with it changes nothing.

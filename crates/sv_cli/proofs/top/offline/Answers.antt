@@ -13,7 +13,8 @@ returns-clause-answered g c = λ asked is. elim c.match-parse.branch [
       (g.K.Sink.written c.match-parse.out)
       w.answer-status.new.journal.items c.match-parse.journal.items w.answer-status.result
       c.match-parse.status
-      (same_words c.args.words.now w.in-Some.command asked w.in-Some.ensures is) (ap g.S.Source.left w.src-is) (ap g.K.Sink.written w.out-is)
+      (same_words c.args.words.now w.in-Some.command asked
+      w.in-Some.ensures is) (ap g.S.Source.left w.src-is) (ap g.K.Sink.written w.out-is)
       (ap (λ j. j.items) w.journal-is) w.status-is w.answer-status.ensures.answered
   | in-None w ↦ absurd (w.in-None.ensures asked is)
 ]
@@ -23,7 +24,8 @@ returns-clause-unwritten g c = λ asked is silent. elim c.match-parse.branch [
   | in-Some w ↦
       w.out-is ∙ w.answer-status.ensures.unwritten
       (same_unwritten w.in-Some.command asked w.answer-status.result
-      (same_words c.args.words.now w.in-Some.command asked w.in-Some.ensures is) ∙ ap (λ s. is_unwritten asked s) (sym w.status-is) ∙ silent)
+      (same_words c.args.words.now w.in-Some.command asked
+      w.in-Some.ensures is) ∙ ap (λ s. is_unwritten asked s) (sym w.status-is) ∙ silent)
   | in-None w ↦ absurd (w.in-None.ensures asked is)
 ]
 
@@ -32,7 +34,8 @@ returns-clause-sure g c = λ asked is sure. elim c.match-parse.branch [
   | in-Some w ↦ λ fault.
       w.answer-status.ensures.sure
       (subst (λ (name : List ℕ). g.S.Source.sure c.args.src.now name)
-      (sym (same_file w.in-Some.command asked (same_words c.args.words.now w.in-Some.command asked w.in-Some.ensures is))) sure)
+      (sym (same_file w.in-Some.command asked (same_words c.args.words.now w.in-Some.command asked
+      w.in-Some.ensures is))) sure)
       (sym w.status-is ∙ fault)
   | in-None w ↦ absurd (w.in-None.ensures asked is)
 ]

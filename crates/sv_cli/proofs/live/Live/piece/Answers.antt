@@ -13,10 +13,10 @@ returns-in-Err-clause-cut g c = λ left written between.
 pub returns-then-count-eq0-clause-over : goal.returns-then-count-eq0-clause-over
 returns-then-count-eq0-clause-over g c = λ left written between. (
   live_over (length c.args.buf.now) left written
-          (g.S.Source.left c.args.src.now) (g.K.Sink.written c.args.out.now) c.args.self.now between
-          (g.S.Source.left c.grow.new.src) c.grow.new.self c.in-Ok.count c.grow.new.buf
-          c.grow.ensures.same c.in-Ok.ensures.grown
-          c.if-count-eq0.true c.requires.room c.finish.result c.finish.ensures,
+      (g.S.Source.left c.args.src.now) (g.K.Sink.written c.args.out.now) c.args.self.now between
+      (g.S.Source.left c.grow.new.src) c.grow.new.self c.in-Ok.count c.grow.new.buf
+      c.grow.ensures.same c.in-Ok.ensures.grown
+      c.if-count-eq0.true c.requires.room c.finish.result c.finish.ensures,
   tt,
 )
 
@@ -32,24 +32,24 @@ returns-in-Err-tell-clause-cut g c = λ left written between.
 pub returns-then-is_damaged-clause-over : goal.returns-then-is_damaged-clause-over
 returns-then-is_damaged-clause-over g c = λ left written between. (
   live_ended (length c.args.buf.now) left written
-          (g.S.Source.left c.args.src.now) (g.K.Sink.written c.args.out.now) c.args.self.now between
-          (g.S.Source.left c.grow.new.src) c.grow.new.self c.in-Ok.count c.grow.new.buf
-          c.grow.ensures.same c.in-Ok.ensures.grown
-          (positive c.in-Ok.count c.if-count-eq0.false) (g.K.Sink.written c.tell.new.out) c.in-Ok-tell.end
-          c.in-Ok-tell.ensures.told
-          (inl (c.is_damaged.ensures.yes c.if-is_damaged.true)),
+      (g.S.Source.left c.args.src.now) (g.K.Sink.written c.args.out.now) c.args.self.now between
+      (g.S.Source.left c.grow.new.src) c.grow.new.self c.in-Ok.count c.grow.new.buf
+      c.grow.ensures.same c.in-Ok.ensures.grown
+      (positive c.in-Ok.count c.if-count-eq0.false) (g.K.Sink.written c.tell.new.out) c.in-Ok-tell.end
+      c.in-Ok-tell.ensures.told
+      (inl (c.is_damaged.ensures.yes c.if-is_damaged.true)),
   tt,
 )
 
 pub returns-then-count-buf-clause-over : goal.returns-then-count-buf-clause-over
 returns-then-count-buf-clause-over g c = λ left written between. (
   live_ended (length c.args.buf.now) left written
-          (g.S.Source.left c.args.src.now) (g.K.Sink.written c.args.out.now) c.args.self.now between
-          (g.S.Source.left c.grow.new.src) c.grow.new.self c.in-Ok.count c.grow.new.buf
-          c.grow.ensures.same c.in-Ok.ensures.grown
-          (positive c.in-Ok.count c.if-count-eq0.false) (g.K.Sink.written c.tell.new.out) c.in-Ok-tell.end
-          c.in-Ok-tell.ensures.told
-          (inr (omega (arith, c.if-count-buf.true, c.grow.ensures.same))),
+      (g.S.Source.left c.args.src.now) (g.K.Sink.written c.args.out.now) c.args.self.now between
+      (g.S.Source.left c.grow.new.src) c.grow.new.self c.in-Ok.count c.grow.new.buf
+      c.grow.ensures.same c.in-Ok.ensures.grown
+      (positive c.in-Ok.count c.if-count-eq0.false) (g.K.Sink.written c.tell.new.out) c.in-Ok-tell.end
+      c.in-Ok-tell.ensures.told
+      (inr (omega (arith, c.if-count-buf.true, c.grow.ensures.same))),
   tt,
 )
 
@@ -57,12 +57,12 @@ pub returns-clause-over : goal.returns-clause-over
 returns-clause-over g c = λ left written between. (
   tt,
   live_between (length c.args.buf.now) left written
-          (g.S.Source.left c.args.src.now) (g.K.Sink.written c.args.out.now) c.args.self.now between
-          (g.S.Source.left c.grow.new.src) c.grow.new.self c.in-Ok.count c.grow.new.buf
-          c.grow.ensures.same c.in-Ok.ensures.grown
-          (positive c.in-Ok.count c.if-count-eq0.false) (g.K.Sink.written c.tell.new.out) c.in-Ok-tell.end
-          c.in-Ok-tell.ensures.told
-          c.tell.new.self c.tell.ensures.analyser c.tell.ensures.total
-          (c.is_damaged.ensures.no c.if-is_damaged.false)
-          (omega (arith, c.if-count-buf.false, c.grow.ensures.same)),
+      (g.S.Source.left c.args.src.now) (g.K.Sink.written c.args.out.now) c.args.self.now between
+      (g.S.Source.left c.grow.new.src) c.grow.new.self c.in-Ok.count c.grow.new.buf
+      c.grow.ensures.same c.in-Ok.ensures.grown
+      (positive c.in-Ok.count c.if-count-eq0.false) (g.K.Sink.written c.tell.new.out) c.in-Ok-tell.end
+      c.in-Ok-tell.ensures.told
+      c.tell.new.self c.tell.ensures.analyser c.tell.ensures.total
+      (c.is_damaged.ensures.no c.if-is_damaged.false)
+      (omega (arith, c.if-count-buf.false, c.grow.ensures.same)),
 )

@@ -23,7 +23,7 @@ use Rattle.sv_truth.proofs.Classes.{classes_true, IsClassTrue}
 use Rattle.sv_truth.proofs.Telling.{Telling, breaking, idling, making, telling, HasNoBreaks}
 use Rattle.sv_truth.proofs.Facts.{each_after}
 
-parted : (before : List Item) (item : Item) (after : List Item) →
+pub parted : (before : List Item) (item : Item) (after : List Item) →
     latest_first (before ++ item ∷ after) ≡ latest_first after ++ item ∷ latest_first before
 parted before item after =
     reverse-append before (item ∷ after)

@@ -8,5 +8,6 @@ pub mod Quiet
 pub mod Contexts
 pub mod Segments
 pub mod Fronts
+pub mod Starts
 pub mod Naming
 pub mod examples

@@ -10,9 +10,11 @@ use Rattle.sv_journal.specs.declared.journal.Item.{Item}
 use Rattle.sv_journal.specs.Legal.{IsLegal}
 use Rattle.sv_journal.specs.Stream.{stream_of, sent_events, IsCalm}
 use Rattle.sv_core.proofs.Shared.{packets_as, spellable, times_as}
-use Rattle.sv_truth.specs.Truth.{AreContextsTrue, TellsClasses, TellsContexts, TellsTruly}
+use Rattle.sv_truth.specs.Truth.{AreContextsTrue, TellsClasses, TellsContexts, TellsStarts}
+use Rattle.sv_truth.specs.Truth.{TellsTruly}
 use Rattle.sv_truth.proofs.Contexts.{contexts_true}
 use Rattle.sv_truth.proofs.Fronts.{class_told, stored_call}
+use Rattle.sv_truth.proofs.Starts.{start_called}
 use Rattle.sv_truth.proofs.Telling.{no_breaks}
 
 -- the packets have the moments of the events that were sent
@@ -40,9 +42,17 @@ classes load items legal l calm packets end reads before event call =
       λ class. class_told load items before event class legal (no_breaks load l) call,
     )
 
+-- and no event starts a task but a stored call's
+starts : (load : Load) (items : List Item) → IsLegal load items → IsWithinLimits load →
+    IsCalm load items → TellsStarts load items
+starts load items legal l calm packets end reads front more event task is =
+    start_called load items front more event task
+    (sym (told_as load items packets end legal l calm reads) ∙ is)
+
 pub truly : (load : Load) (items : List Item) → IsLegal load items → IsWithinLimits load →
     TellsTruly load items
 truly load items legal l = record {
   contexts = contexts load items legal l;
   classes = classes load items legal l;
+  starts = starts load items legal l;
 }

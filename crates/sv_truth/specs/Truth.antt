@@ -22,7 +22,7 @@ use Rattle.sv_context.specs.Context.{context_after}
 use Rattle.sv_timeline.specs.Ticks.{events_until, context_at}
 use Rattle.sv_latency.specs.declared.class.Class.{Class}
 use Rattle.sv_latency.specs.declared.class.Class.TheVariants.{Unknown as UnknownClass}
-use Rattle.sv_latency.specs.Class.{class_of}
+use Rattle.sv_latency.specs.Class.{class_of, started_task}
 
 -- WHAT ALL CALLS SAY
 
@@ -93,8 +93,19 @@ TellsClasses load items =
     ((class : Class) → class_of (sent_events load before) event ≡ Some class →
     class ≢ UnknownClass → class_of (all_calls load before) event ≡ Some class)
 
+-- each event that starts a task is a stored call's, and comes after the events that were sent
+-- before that call
+abbrev pub TellsStarts : Load → List Item → Type 0
+TellsStarts load items =
+    (packets : List Packet) (end : End) → Reads (stream_of load items) packets end →
+    (front more : List TimedEvent) (event : TimedEvent) (task : ℕ) →
+    timed packets ≡ front ++ event ∷ more → started_task event.event ≡ Some task →
+    (before : List Item) × IsStoredCall load items before event ×
+    (front ≡ sent_events load before)
+
 -- where stored packets are less than a round of the counter apart (2 ^ 32 ticks), whatever the
 -- stream names is true of all calls
 pub record TellsTruly (load : Load) (items : List Item) : Type 0 where
   pub contexts : IsCalm load items → TellsContexts load items
   pub classes : IsCalm load items → TellsClasses load items
+  pub starts : IsCalm load items → TellsStarts load items

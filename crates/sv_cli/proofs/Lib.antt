@@ -11,3 +11,4 @@ pub mod Timelines
 pub mod Reported
 pub mod Lives
 pub mod Sizes
+pub mod Started

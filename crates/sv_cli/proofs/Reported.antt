@@ -8,22 +8,22 @@ use Rattle.sv_stream.specs.declared.end.End.{End}
 use Rattle.sv_stream.specs.declared.end.End.TheVariants as ends
 use Rattle.sv_stream.specs.Reads.{Reads}
 use Rattle.sv_stream.proofs.Shared.{reading}
+use Rattle.sv_analyse.specs.declared.report.Report.{Report}
 use Rattle.sv_analyse.specs.Report.{report_of}
-use Rattle.sv_report.specs.ReportText.{text_of}
 use Rattle.sv_workload.specs.Load.{Load}
 use Rattle.sv_journal.specs.declared.journal.Item.{Item}
 use Rattle.sv_journal.specs.Stream.{stream_of}
 use Rattle.sv_core.specs.Start.{has_start}
 use Rattle.sv_cli.specs.Recorded.{sent_end, IsReportText}
 
-pub report_made : (load : Load) (items : List Item) (bytes made : List ℕ)
+report_made : (text : Report → List ℕ) (load : Load) (items : List Item) (bytes made : List ℕ)
     → bytes ≡ stream_of load items → AreBytes bytes
     → ((packets : List Packet) (end : End) → Reads bytes packets end
     → end ≡ sent_end (has_start load items))
     → ((packets : List Packet) (end : End) → Reads bytes packets end
-    → made ≡ text_of (report_of packets end))
-    → IsReportText load items made
-report_made load items bytes made sent are end_is reports =
+    → made ≡ text (report_of packets end))
+    → IsReportText text load items made
+report_made text load items bytes made sent are end_is reports =
     let r = reading bytes are in
     let end = end_is r.0 r.1 r.2 in
     record {
@@ -31,22 +31,23 @@ report_made load items bytes made sent are end_is reports =
       reads =
           subst (λ (e : End). Reads (stream_of load items) r.0 e) end
           (subst (λ (bs : List ℕ). Reads bs r.0 r.1) sent r.2);
-      made_is = reports r.0 r.1 r.2 ∙ ap (λ (e : End). text_of (report_of r.0 e)) end;
+      made_is = reports r.0 r.1 r.2 ∙ ap (λ (e : End). text (report_of r.0 e)) end;
     }
 
--- the same, of the slices that were handed on
-pub report_of_run : (load : Load) (items : List Item) (bytes slice report made : List ℕ)
+-- the same, of the slices that were handed on and the report whose text was written
+pub report_of_run : (text : Report → List ℕ) (load : Load) (items : List Item)
+    (bytes slice : List ℕ) (report : Report) (lines made : List ℕ)
     → slice ≡ bytes → bytes ≡ stream_of load items → AreBytes slice
     → ((packets : List Packet) (end : End) → Reads bytes packets end
     → end ≡ sent_end (has_start load items))
     → ((packets : List Packet) (end : End) → Reads slice packets end
-    → report ≡ text_of (report_of packets end))
-    → made ≡ report → IsReportText load items made
-report_of_run load items bytes slice report made same sent are end_is reports is =
-    report_made load items slice made (same ∙ sent) are
+    → report ≡ report_of packets end)
+    → lines ≡ text report → made ≡ lines → IsReportText text load items made
+report_of_run text load items bytes slice report lines made same sent are end_is reports told is =
+    report_made text load items slice made (same ∙ sent) are
     (λ packets end reads.
     end_is packets end (subst (λ (bs : List ℕ). Reads bs packets end) same reads))
-    (λ packets end reads. is ∙ reports packets end reads)
+    (λ packets end reads. is ∙ told ∙ ap text (reports packets end reads))
 
 -- how a journal's bytes end
 pub ends_so : (started : Bool) (end : End)

@@ -1,5 +1,5 @@
--- What `record` and `simulate` make of a workload's text, and what they answer where a device
--- fails.
+-- What `record` and `simulate` make of a workload's text, and `generate` of a number, and what they
+-- answer where a device fails.
 use Rattle.std.specs.Prelude.{◌≡◌, ℕ, ◌^◌, ◌<◌, ◌≤◌, Bool, true, false, List, [], ◌++◌, length}
 use Rattle.std.specs.Prelude.{Option, Some, codes}
 use Rattle.std.specs.Io.KnownBytes.{Appends}
@@ -8,10 +8,12 @@ use Rattle.sv_packet.specs.declared.event.Packet.{Packet}
 use Rattle.sv_stream.specs.declared.end.End.{End}
 use Rattle.sv_stream.specs.declared.end.End.TheVariants as ends
 use Rattle.sv_stream.specs.Reads.{Reads}
+use Rattle.sv_analyse.specs.declared.report.Report.{Report}
 use Rattle.sv_analyse.specs.Report.{report_of}
-use Rattle.sv_report.specs.ReportText.{text_of}
+use Rattle.sv_report.specs.ReportText.{short_text_of}
 use Rattle.sv_workload.specs.Load.{Load}
 use Rattle.sv_workload.specs.Grammar.{first_reason, IsWorkload}
+use Rattle.sv_workload.specs.Generated.{generated_load}
 use Rattle.sv_journal.specs.declared.journal.Item.{Item}
 use Rattle.sv_journal.specs.Stream.{stream_of}
 use Rattle.sv_core.specs.Simulated.{IsSimulated}
@@ -32,10 +34,10 @@ most_of_workload = 2 ^ 26
 abbrev pub header : List ℕ
 header = codes "; sysview recording\n"
 
--- the text says this workload, and the journal is that of its simulation, whose stream names
+-- this is said of the workload, and the journal is that of its simulation, whose stream names
 -- nothing that is not true of all calls, the lost ones included
-pub record IsRun (text : List ℕ) (load : Load) (items : List Item) : Type 0 where
-  pub says : IsWorkload text load
+pub record IsRun (says : Load → Type 0) (load : Load) (items : List Item) : Type 0 where
+  pub said : says load
   pub simulated : IsSimulated load items
   pub names : TellsTruly load items
 
@@ -48,27 +50,29 @@ abbrev pub sent_end : Bool → End
 sent_end true = ends.Clean
 sent_end false = ends.NoSync
 
--- what `simulate` writes of a journal: the report of the bytes that were sent
-pub record IsReportText (load : Load) (items : List Item) (made : List ℕ) : Type 0 where
+-- what `simulate` and `generate` write of a journal: a text of the report of the bytes that were
+-- sent
+pub record IsReportText (text : Report → List ℕ) (load : Load) (items : List Item)
+    (made : List ℕ) : Type 0 where
   pub packets : List Packet
   pub reads : Reads (stream_of load items) packets (sent_end (has_start load items))
-  pub made_is : made ≡ text_of (report_of packets (sent_end (has_start load items)))
+  pub made_is : made ≡ text (report_of packets (sent_end (has_start load items)))
 
 -- all that a command makes of a run is written, which has a start or not
-pub record IsRecording (makes : Load → List Item → List ℕ → Type 0) (text : List ℕ)
+pub record IsRecording (makes : Load → List Item → List ℕ → Type 0) (says : Load → Type 0)
     (old new : Option (List ℕ)) (items : List Item) (started : Bool) : Type 0 where
   pub load : Load
-  pub run : IsRun text load items
+  pub run : IsRun says load items
   pub start : has_start load items ≡ started
   pub made : List ℕ
   pub makes_it : makes load items made
   pub written : Appends old new made
 
 -- a part of it is written
-pub record IsRecordingPart (makes : Load → List Item → List ℕ → Type 0) (text : List ℕ)
+pub record IsRecordingPart (makes : Load → List Item → List ℕ → Type 0) (says : Load → Type 0)
     (old new : Option (List ℕ)) (items : List Item) : Type 0 where
   pub load : Load
-  pub run : IsRun text load items
+  pub run : IsRun says load items
   pub made : List ℕ
   pub makes_it : makes load items made
   pub part : AppendsPart old new made
@@ -80,9 +84,12 @@ IsNothing old new items = Appends old new [] × (items ≡ [])
 -- the answer over a text that was read whole
 abbrev pub IsTextRecorded : (Load → List Item → List ℕ → Type 0) → List ℕ → Option (List ℕ)
     → Option (List ℕ) → List Item → Status → Type 0
-IsTextRecorded makes text old new items Done = IsRecording makes text old new items true
-IsTextRecorded makes text old new items NoSync = IsRecording makes text old new items false
-IsTextRecorded makes text old new items WriteFault = IsRecordingPart makes text old new items
+IsTextRecorded makes text old new items Done =
+    IsRecording makes (IsWorkload text) old new items true
+IsTextRecorded makes text old new items NoSync =
+    IsRecording makes (IsWorkload text) old new items false
+IsTextRecorded makes text old new items WriteFault =
+    IsRecordingPart makes (IsWorkload text) old new items
 IsTextRecorded makes text old new items (Workload line reason) =
     (first_reason text ≡ Some (line, reason)) × IsNothing old new items
 IsTextRecorded makes text old new items NoMemory = IsNothing old new items
@@ -100,6 +107,19 @@ IsRecorded makes file taken old new items NoMemory = IsNothing old new items
 IsRecorded makes file taken old new items other =
     (taken ≡ file) × (length file ≤ most_of_workload)
     × IsTextRecorded makes file old new items other
+
+-- the workload is the one of the number
+abbrev pub IsOfNumber : ℕ → Load → Type 0
+IsOfNumber number load = load ≡ generated_load number
+
+-- the answer of a number: the counts of the report of its workload's simulation, which has a start
+abbrev pub IsGenerated : ℕ → Option (List ℕ) → Option (List ℕ) → List Item → Status → Type 0
+IsGenerated number old new items Done =
+    IsRecording (IsReportText short_text_of) (IsOfNumber number) old new items true
+IsGenerated number old new items WriteFault =
+    IsRecordingPart (IsReportText short_text_of) (IsOfNumber number) old new items
+IsGenerated number old new items NoMemory = IsNothing old new items
+IsGenerated number old new items other = ⊥
 
 -- why a text has no simulation
 abbrev pub IsUnsimulated : List ℕ → Unsimulated → Type 0

@@ -1,12 +1,12 @@
 //! The commands, by the words of a command line.
 ghost use Rattle.std.specs.Prelude.{◌≡◌, ℕ, MatchOption, IfSome, IfNone};
 ghost use Rattle.std.specs.Fmt.{decimal};
-ghost use Rattle.sv_cli.specs.Command.{IsSize};
+ghost use Rattle.sv_cli.specs.Command.{IsUpTo};
 ghost use Rattle.sv_cli.specs.ErrorLine.{usage_line};
 
 use itoa::Buffer;
 
-/// What the words of a command line ask for, with the name of the file that it reads.
+/// What the words of a command line ask for, with the name of the file that it reads, or its number.
 #[derive(Clone, Copy, Debug, PartialEq, Eq)]
 pub enum Command<'a> {
     /// `events F`: a line for each event of the recording F, and the end line.
@@ -27,33 +27,37 @@ pub enum Command<'a> {
     Simulate(&'a str),
     /// `record W`: the recording that the workload W gives.
     Record(&'a str),
+    /// `generate N`: the counts of the recording that the workload of the number N gives. N is from
+    /// 1 to 1000000.
+    Generate(u32),
 }
 
 /// The line that tells the forms of all commands.
 pub fn usage() -> &'static str
     ensures { result.now ≡ usage_line }
 {
-    "usage: sysview events F | check F | timeline F | report F | live N F | simulate W | record W\n"
+    "usage: sysview events F | check F | timeline F | report F | live N F | simulate W | \
+     record W | generate N\n"
 }
 
-/// The size of a piece that a word says: from 1 to 65536, in decimal with no zero before it.
-fn size_of_piece(word: &str) -> Option<u32>
-    ensures some { IfSome result (λ n. (decimal n ≡ word.now) × IsSize n) }
-    ensures none { IfNone result ((n : ℕ) → IsSize n → decimal n ≡ word.now → ⊥) }
+/// The number that a word says: from 1 to `most`, in decimal with no zero before it.
+fn number_of(word: &str, most: u32) -> Option<u32>
+    ensures some { IfSome result (λ n. (decimal n ≡ word.now) × IsUpTo most n) }
+    ensures none { IfNone result ((n : ℕ) → IsUpTo most n → decimal n ≡ word.now → ⊥) }
 {
-    let Ok(size) = word.parse::<u32>() else {
+    let Ok(number) = word.parse::<u32>() else {
         return None;
     };
-    if size < 1 {
+    if number < 1 {
         return None;
     }
-    if 65536 < size {
+    if most < number {
         return None;
     }
-    if Buffer::new().format(size) != word {
+    if Buffer::new().format(number) != word {
         return None;
     }
-    Some(size)
+    Some(number)
 }
 
 impl<'a> Command<'a> {
@@ -71,12 +75,16 @@ impl<'a> Command<'a> {
             ["check", file] => Some(Command::Check(file)),
             ["timeline", file] => Some(Command::Timeline(file)),
             ["report", file] => Some(Command::Report(file)),
-            ["live", size, file] => match size_of_piece(size) {
+            ["live", size, file] => match number_of(size, 65536) {
                 Some(size) => Some(Command::Live { size, file }),
                 None => None,
             },
             ["simulate", file] => Some(Command::Simulate(file)),
             ["record", file] => Some(Command::Record(file)),
+            ["generate", number] => match number_of(number, 1000000) {
+                Some(number) => Some(Command::Generate(number)),
+                None => None,
+            },
             _ => None,
         }
     }

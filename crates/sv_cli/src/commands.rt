@@ -1,6 +1,7 @@
 //! Each command in a room of its own.
 pub mod check;
 pub mod events;
+pub mod generate;
 pub mod record;
 pub mod report;
 pub mod simulate;

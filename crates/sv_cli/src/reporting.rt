@@ -12,32 +12,31 @@ ghost use Rattle.sv_cli.specs.Recorded.{is_unwritten, IsTextRecorded, IsReportTe
 use crate::simulated::{Simulation, Unsimulated, simulated};
 use crate::status::Status;
 use std::alloc::Global;
-use sv_analyse::Analyser;
+use sv_analyse::{Analyser, Report};
 use sv_base::{Sink, put_all};
 use sv_core::has_start;
 use sv_journal::Journal;
 use sv_prim::NoMemory;
-use sv_report::text;
+use sv_report::text as report_text;
 
-/// The text of the report of these bytes.
-fn report_of_bytes(alloc: Global, bytes: &[u8]) -> Result<Vec<u8>, NoMemory>
+/// The report of these bytes.
+pub fn report_of_bytes(alloc: Global, bytes: &[u8]) -> Result<Report, NoMemory>
     requires short { length bytes.now ≤ 2 ^ 33 }
-    ensures report { IfOk result (λ text. (packets : List Packet) → (end : HowItEnds) →
-        Reads bytes.now packets end → text.items ≡ text_of (report_of packets end)) }
+    ensures report { IfOk result (λ report. (packets : List Packet) → (end : HowItEnds) →
+        Reads bytes.now packets end → report ≡ report_of packets end) }
     ensures bytes { AreBytes bytes.now }
 {
     let mut analyser = Analyser::new(alloc);
     let mut runs = Vec::new(alloc);
     analyser.feed(bytes, &mut runs)?;
-    let report = analyser.report()?;
-    text(alloc, &report)
+    analyser.report()
 }
 
 /// Simulates the workload that the text says, and writes the report of the bytes that are sent.
 pub fn report_run<K: Sink>(alloc: Global, text: &[u8], out: &mut K, journal: &mut Journal) -> Status
     requires short { length text.now ≤ 2 ^ 26 }
     requires empty { journal.old.items ≡ [] }
-    ensures recorded { IsTextRecorded IsReportText text.now
+    ensures recorded { IsTextRecorded (IsReportText text_of) text.now
         (K.written out.old) (K.written out.new) journal.new.items result }
     ensures unwritten { is_unwritten result ≡ true → out.new ≡ out.old }
     ensures sink { BlamesLast (result ≡ Status.WriteFault)
@@ -51,8 +50,11 @@ pub fn report_run<K: Sink>(alloc: Global, text: &[u8], out: &mut K, journal: &mu
     let Ok(report) = report_of_bytes(alloc, run.bytes.as_slice()) else {
         return Status::NoMemory;
     };
+    let Ok(lines) = report_text(alloc, &report) else {
+        return Status::NoMemory;
+    };
     *journal = run.journal;
-    let Ok(()) = put_all(out, report.as_slice()) else {
+    let Ok(()) = put_all(out, lines.as_slice()) else {
         return Status::WriteFault;
     };
     if !has_start(&load, journal.items()) {

@@ -169,7 +169,7 @@ fn is_usage(alloc: Global, words: &[&str]) -> Result<bool, Fail> {
     Ok(
         run.status == Status::Usage
             && run.err.bytes()
-                == b"usage: sysview events F | check F | timeline F | report F | live N F | simulate W | record W\n".as_slice(),
+                == b"usage: sysview events F | check F | timeline F | report F | live N F | simulate W | record W | generate N\n".as_slice(),
     )
 }
 

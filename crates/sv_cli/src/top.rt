@@ -1,15 +1,16 @@
 //! What the program does, and how it ends.
-ghost use Rattle.std.specs.Prelude.{◌≡◌, ◌≢◌, ◌↔◌, [], true};
+ghost use Rattle.std.specs.Prelude.{◌≡◌, ◌≢◌, ◌↔◌, [], true, false};
 ghost use Rattle.sv_base.specs.Causes.{Blames, BlamesLast, one_more};
 ghost use Rattle.sv_cli.specs.declared.command.Command.{Command as Asked};
 ghost use Rattle.sv_cli.specs.AnswersTo.{AnswersTo};
-ghost use Rattle.sv_cli.specs.Command.{IsCommand, HasNumbers, file_of, is_unwritten};
-ghost use Rattle.sv_cli.specs.Devices.{OfFile, Says};
+ghost use Rattle.sv_cli.specs.Command.{IsCommand, HasNumbers, file_of, is_unwritten, reads_file};
+ghost use Rattle.sv_cli.specs.Devices.{Says};
 ghost use Rattle.sv_cli.specs.ErrorLine.{error_line};
 
 use crate::command::Command;
 use crate::commands::check::Check;
 use crate::commands::events::Events;
+use crate::commands::generate::generate;
 use crate::commands::record::record;
 use crate::commands::report::Summary;
 use crate::commands::simulate::simulate;
@@ -31,12 +32,12 @@ fn answer<S: Source, K: Sink>(
 ) -> Status
     requires empty { journal.old.items ≡ [] }
     requires numbers { HasNumbers command }
-    ensures answered { OfFile (S.held src.old (file_of command.entry)) (S.left src.new)
-        (λ file taken.
-        AnswersTo command.entry file taken (K.written out.old) (K.written out.new)
-        journal.new.items result) }
+    ensures answered { AnswersTo (S.held src.old) (S.left src.new) command.entry
+        (K.written out.old) (K.written out.new) journal.new.items result }
     ensures unwritten { is_unwritten command.entry result ≡ true → out.new ≡ out.old }
-    ensures begins { S.begins src.new ≡ one_more (S.begins src.old) }
+    ensures begins { reads_file command.entry ≡ true →
+        S.begins src.new ≡ one_more (S.begins src.old) }
+    ensures unread { reads_file command.entry ≡ false → src.new ≡ src.old }
     ensures sure { S.sure src.old (file_of command.entry) → result ≢ Status.ReadFault }
     ensures read { Blames (result ≡ Status.ReadFault) (S.faults src.old) (S.faults src.new) }
     ensures write { BlamesLast (result ≡ Status.WriteFault)
@@ -50,6 +51,7 @@ fn answer<S: Source, K: Sink>(
         Command::Live { size, file } => live_file(alloc, size, file, src, out),
         Command::Simulate(name) => simulate(alloc, name, src, out, journal),
         Command::Record(name) => record(alloc, name, src, out, journal),
+        Command::Generate(number) => generate(alloc, number, out, journal),
     }
 }
 
@@ -66,7 +68,9 @@ fn answer<S: Source, K: Sink>(
 /// last.
 /// `simulate W` and `record W` read the workload W, of at most 2^26 bytes, and simulate it.
 /// `simulate` writes the report of the bytes that were sent, and `record` a line and these bytes;
-/// `journal` is then that of the run. A status other than Done is told to `err`, in one line; what
+/// `journal` is then that of the run. `generate N` reads no file: it simulates the workload of the
+/// number N, from 1 to 1000000, and writes the counts of the bytes that were sent, and the end line;
+/// `journal` is that of the run. A status other than Done is told to `err`, in one line; what
 /// `err` does with it changes nothing.
 pub fn offline<S: Source, K: Sink>(
     alloc: Global,
@@ -83,15 +87,18 @@ pub fn offline<S: Source, K: Sink>(
     ensures untouched { result ≡ Status.Usage →
         (src.new ≡ src.old) × (out.new ≡ out.old) × (journal.new ≡ journal.old) }
 
-    // The bytes of the file fix the answer, as far as they were taken.
+    // The bytes of the file fix the answer, as far as they were taken, or the number does.
     ensures answered { (c : Asked) → IsCommand words.now c →
-        OfFile (S.held src.old (file_of c)) (S.left src.new) (λ file taken.
-        AnswersTo c file taken (K.written out.old) (K.written out.new) journal.new.items result) }
+        AnswersTo (S.held src.old) (S.left src.new) c
+        (K.written out.old) (K.written out.new) journal.new.items result }
     ensures unwritten { (c : Asked) → IsCommand words.now c →
         is_unwritten c result ≡ true → out.new ≡ out.old }
 
-    // A file is begun once, and is read where it can be.
-    ensures begins { result ≢ Status.Usage → S.begins src.new ≡ one_more (S.begins src.old) }
+    // A file is begun once, and is read where it can be; with no file the source stays as it was.
+    ensures begins { (c : Asked) → IsCommand words.now c → reads_file c ≡ true →
+        S.begins src.new ≡ one_more (S.begins src.old) }
+    ensures unread { (c : Asked) → IsCommand words.now c → reads_file c ≡ false →
+        src.new ≡ src.old }
     ensures sure { (c : Asked) → IsCommand words.now c →
         S.sure src.old (file_of c) → result ≢ Status.ReadFault }
 

@@ -1,6 +1,7 @@
 use Rattle.std.proofs.Common.{◌∙◌, List, ℕ, sym, ap, subst}
 use Rattle.sv_cli.specs.Command.{is_unwritten}
-use Rattle.sv_cli.proofs.SameWords.{answered_as, same_unwritten, same_file, same_words}
+use Rattle.sv_cli.proofs.SameWords.{answered_as, same_unwritten, same_file, same_reads}
+use Rattle.sv_cli.proofs.SameWords.{same_words}
 use Rattle.sv_cli.proofs.top.offline.Goals.{in-Some, in-None}
 use Rattle.sv_cli.proofs.top.offline.Goals as goal
 
@@ -37,5 +38,23 @@ returns-clause-sure g c = λ asked is sure. elim c.match-parse.branch [
       (sym (same_file w.in-Some.command asked (same_words c.args.words.now w.in-Some.command asked
       w.in-Some.ensures is))) sure)
       (sym w.status-is ∙ fault)
+  | in-None w ↦ absurd (w.in-None.ensures asked is)
+]
+
+pub returns-clause-begins : goal.returns-clause-begins
+returns-clause-begins g c = λ asked is reads. elim c.match-parse.branch [
+  | in-Some w ↦
+      ap g.S.Source.begins w.src-is ∙ w.answer-status.ensures.begins
+      (same_reads w.in-Some.command asked (same_words c.args.words.now w.in-Some.command asked
+      w.in-Some.ensures is) ∙ reads)
+  | in-None w ↦ absurd (w.in-None.ensures asked is)
+]
+
+pub returns-clause-unread : goal.returns-clause-unread
+returns-clause-unread g c = λ asked is reads. elim c.match-parse.branch [
+  | in-Some w ↦
+      w.src-is ∙ w.answer-status.ensures.unread
+      (same_reads w.in-Some.command asked (same_words c.args.words.now w.in-Some.command asked
+      w.in-Some.ensures is) ∙ reads)
   | in-None w ↦ absurd (w.in-None.ensures asked is)
 ]

@@ -1,4 +1,4 @@
-//! The one loop that reads a recording: pieces of its file go through a decoder, and what a view
+//! The one loop of all views: pieces of a recording's file go through a decoder, and what a view
 //! makes of the events is written.
 ghost use Rattle.std.specs.Prelude.{◌≡◌, ◌≢◌, ◌+◌, ◌*◌, ◌<◌, ◌≤◌, ◌^◌, ◌⊎◌, ◌∷◌, ◌++◌, []};
 ghost use Rattle.std.specs.Prelude.{List, ℕ, Option, true, false, IsTrue, Err, Ok, IsErr, nat_le, length};

@@ -69,8 +69,8 @@ fn answer<S: Source, K: Sink>(
 /// `simulate W` and `record W` read the workload W, of at most 2^26 bytes, and simulate it.
 /// `simulate` writes the report of the bytes that were sent, and `record` a line and these bytes;
 /// `journal` is then that of the run. `generate N` reads no file: it simulates the workload of the
-/// number N, from 1 to 1000000, and writes the counts of the bytes that were sent, and the end line;
-/// `journal` is that of the run. A status other than Done is told to `err`, in one line; what
+/// number N, from 1 to 1000000, and writes the counts of the bytes that were sent, and the end
+/// line; `journal` is that of the run. A status other than Done is told to `err`, in one line; what
 /// `err` does with it changes nothing.
 pub fn offline<S: Source, K: Sink>(
     alloc: Global,

@@ -10,7 +10,8 @@ returns-in_default-put_all-clause-recorded g c = record {
   run = c.in-Ok.ensures.run;
   made = c.as_slice-2.result.now;
   makes_it = report_of_run text_of c.in-Ok.made.load c.in-Ok.made.run.journal.items
-      c.in-Ok.made.run.bytes.items c.as_slice.result.now c.in-Ok-report_of_bytes.report c.in-Ok-report_text.lines.items
+      c.in-Ok.made.run.bytes.items c.as_slice.result.now c.in-Ok-report_of_bytes.report
+      c.in-Ok-report_text.lines.items
       c.as_slice-2.result.now c.as_slice.ensures.value c.in-Ok.ensures.sent
       c.report_of_bytes.ensures.bytes c.in-Ok.ensures.ends
       c.in-Ok-report_of_bytes.ensures.report c.in-Ok-report_text.ensures c.as_slice-2.ensures.value;
@@ -25,7 +26,8 @@ returns-then-not-has_start-clause-recorded g c = record {
       c.if-not-has_start.true;
   made = c.as_slice-2.result.now;
   makes_it = report_of_run text_of c.in-Ok.made.load c.in-Ok.made.run.journal.items
-      c.in-Ok.made.run.bytes.items c.as_slice.result.now c.in-Ok-report_of_bytes.report c.in-Ok-report_text.lines.items
+      c.in-Ok.made.run.bytes.items c.as_slice.result.now c.in-Ok-report_of_bytes.report
+      c.in-Ok-report_text.lines.items
       c.as_slice-2.result.now c.as_slice.ensures.value c.in-Ok.ensures.sent
       c.report_of_bytes.ensures.bytes c.in-Ok.ensures.ends
       c.in-Ok-report_of_bytes.ensures.report c.in-Ok-report_text.ensures c.as_slice-2.ensures.value;
@@ -40,7 +42,8 @@ returns-clause-recorded g c = record {
       c.if-not-has_start.false;
   made = c.as_slice-2.result.now;
   makes_it = report_of_run text_of c.in-Ok.made.load c.in-Ok.made.run.journal.items
-      c.in-Ok.made.run.bytes.items c.as_slice.result.now c.in-Ok-report_of_bytes.report c.in-Ok-report_text.lines.items
+      c.in-Ok.made.run.bytes.items c.as_slice.result.now c.in-Ok-report_of_bytes.report
+      c.in-Ok-report_text.lines.items
       c.as_slice-2.result.now c.as_slice.ensures.value c.in-Ok.ensures.sent
       c.report_of_bytes.ensures.bytes c.in-Ok.ensures.ends
       c.in-Ok-report_of_bytes.ensures.report c.in-Ok-report_text.ensures c.as_slice-2.ensures.value;

@@ -1,12 +1,11 @@
 -- Reports after each piece of a recording, and what came of it.
-use Rattle.std.proofs.Common.{◌≡◌, ℕ, zero, suc, ◌+◌, ◌*◌, ◌<◌, ◌≤◌, List, [], ◌∷◌, ◌++◌, length}
+use Rattle.std.proofs.Common.{◌≡◌, ℕ, zero, suc, ◌*◌, ◌<◌, ◌≤◌, List, [], ◌∷◌, ◌++◌, length}
 use Rattle.std.proofs.Common.{take, Option, Result, Ok, Err, refl, sym, ap, ◌∙◌, subst, arith}
 use Rattle.std.proofs.Common.{length-append, append-nil, inl, inr, ◌^◌}
 use Rattle.std.specs.Prelude.{◌⊎◌, false, codes}
 use Rattle.std.proofs.lemmas.List.{length-take, take-append-le, take_all}
 use Rattle.std.specs.Io.KnownBytes.{Appends, Consumes, IsAtEnd}
 use Rattle.sv_prim.specs.Text.{AreBytes}
-use Rattle.sv_base.specs.Streams.{AppendsPart}
 use Rattle.sv_base.proofs.Shared.{Consumes-then, Appends-then}
 use Rattle.sv_packet.specs.declared.event.Packet.{Packet}
 use Rattle.sv_stream.specs.declared.end.End.{End}

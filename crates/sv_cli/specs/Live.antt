@@ -1,7 +1,7 @@
 -- What `live` answers: a report of the bytes so far after each piece of some size, and after a last
 -- one that is shorter.
 use Rattle.std.specs.Prelude.{◌≡◌, ℕ, zero, suc, ◌+◌, ◌*◌, ◌<◌, ◌≤◌, ◌⊎◌, false, List, [], ◌∷◌}
-use Rattle.std.specs.Prelude.{◌++◌, length, take, Option, Result, Ok, Err, codes}
+use Rattle.std.specs.Prelude.{◌++◌, length, take, Option, Result, codes}
 use Rattle.std.specs.Io.KnownBytes.{Appends, Consumes, IsAtEnd}
 use Rattle.sv_prim.specs.Text.{AreBytes}
 use Rattle.sv_prim.specs.declared.got.Reason.{Reason}

@@ -1,4 +1,4 @@
-use Rattle.std.proofs.Common.{◌≡◌, ◌≤◌, ℕ, arith, length, take, subst}
+use Rattle.std.proofs.Common.{◌≤◌, ℕ, arith, length, subst}
 use Rattle.std.specs.Prelude.{replicate}
 use Rattle.std.proofs.lemmas.List.{length-take-le, length-replicate}
 use Rattle.sv_cli.specs.Live.{IsLiveEnd}

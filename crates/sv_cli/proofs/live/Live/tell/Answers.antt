@@ -1,4 +1,4 @@
-use Rattle.std.proofs.Common.{ℕ, List, sym, ap, subst}
+use Rattle.std.proofs.Common.{ℕ, List, ap, subst}
 use Rattle.std.specs.Io.KnownBytes.{Appends}
 use Rattle.sv_base.specs.Streams.{AppendsPart}
 use Rattle.sv_analyse.specs.declared.report.Report.{Report}

@@ -11,18 +11,26 @@
 //! bytes holds at most S - 1, and a write with too little room is left out.
 #![tactic(auto)]
 
+mod dock;
 mod down_reader;
 mod down_writer;
+mod log_dock;
+mod log_ends;
 mod plain_down;
 mod plain_ring;
+mod story;
 mod up_reader;
 mod up_writer;
 mod wrote;
 
+pub use dock::{Dock, Ends};
 pub use down_reader::DownReader;
 pub use down_writer::DownWriter;
+pub use log_dock::LogDock;
+pub use log_ends::{LogDown, LogHost, LogTarget, LogUp};
 pub use plain_down::PlainDown;
 pub use plain_ring::PlainRing;
+pub use story::{Log, Story};
 pub use up_reader::UpReader;
 pub use up_writer::UpWriter;
 pub use wrote::Wrote;

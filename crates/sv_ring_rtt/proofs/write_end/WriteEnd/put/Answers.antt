@@ -1,0 +1,26 @@
+use Rattle.std.proofs.Common.{◌≡◌, ◌+◌, ◌%◌, ◌<◌, sym, ap, ◌∙◌, arith, rules}
+use Rattle.std.proofs.Math.Nat.{mod-lt}
+use Rattle.sv_ring_rtt.specs.Rule.{laid, writing_of}
+use Rattle.sv_ring_rtt.proofs.Storing.{store_asked}
+use Rattle.sv_ring_rtt.proofs.write_end.WriteEnd.put.Goals as goal
+
+pub store-requires : goal.store-requires
+store-requires c =
+    let t = c.deref.result.now in
+    let v = c.self.invariant in
+    let w = writing_of c.self.inside.seat.me.0 in
+    let same : c.self.inside.seat.table_id ≡ t.shared.table_id = v.same
+    ∙ sym (ap (λ x. x.shared.table_id) c.deref.ensures) in
+    let words : t.shared.table_id.words ≡ c.self.inside.size + 2 =
+    ap (λ x. x.shared.table_id.words) c.deref.ensures ∙ v.ring.words in
+    let at : c.self.inside.at ≡ laid w % w.size = rw (v.stored_is, v.size_is) (sym v.at_is) in
+    let inside : c.self.inside.at < c.self.inside.size = let m =
+    mod-lt c.self.inside.stored v.ring.some_size in let a = v.at_is in omega arith in
+    let seen : w ≡ c.args.self.now.writing = ap (λ x. x.writing) c.self.view_is in
+    let space : laid w + 1 < w.seen_freed + w.size = rw seen c.requires.space in
+    let within : laid w < w.limit = rw seen c.requires.within in (
+      same,
+      omega arith,
+      store_asked t.shared.key t.shared.table_id.slots c.self.inside.seat.id c.self.inside.seat.me
+          v.me_is _ _ (search rules) space within (ap (λ k. 2 + k) at),
+    )

@@ -155,3 +155,14 @@ fn devices_and_the_texts_of_errors(rt: HostRuntime) -> Result<(), Fail> {
     }
     Ok(())
 }
+
+/// Passes a gate as a writer and as a host, through the bound alone.
+fn pass<G: Gate>(gate: &G) {
+    gate.before_step(15);
+    gate.before_read(u64::MAX);
+}
+
+#[test]
+fn an_open_gate_holds_nobody(_rt: HostRuntime) {
+    pass(&OpenGate);
+}

@@ -1,5 +1,5 @@
 -- The ends of a ring as values.
-use Rattle.std.specs.Prelude.{◌≡◌, ℕ, ◌+◌, ◌-◌, ◌^◌, ◌<◌, ◌≤◌, List, [], ◌∷◌, Option, None}
+use Rattle.std.specs.Prelude.{◌≡◌, ℕ, ◌-◌, ◌<◌, ◌≤◌, List, [], ◌∷◌, Option, None}
 use denote.RawPtr.{Ptr, block_ptr, null_ptr}
 use Rattle.sv_ring.specs.declared.story.Story.{Story}
 use Rattle.rtrb.specs.declared.end.End.{End}

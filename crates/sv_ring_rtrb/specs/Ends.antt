@@ -26,22 +26,24 @@ pub record Stores : Type 0 where
   pub sent : List ℕ
   pub freed : ℕ
 
--- a reader of bytes
+-- a reader of bytes: how many bytes it knows to be stored, too
 pub record Reads : Type 0 where
   pub name : List (List ℕ)
   pub limit : ℕ
   pub taken : List ℕ
+  pub seen : ℕ
 
 -- a writer of commands
 pub record Sends : Type 0 where
   pub name : List (List ℕ)
   pub asked : List ℕ
 
--- a reader of commands: how often it found none, too
+-- a reader of commands: how often it found none, and how many bytes it knows to be sent, too
 pub record Takes : Type 0 where
   pub name : List (List ℕ)
   pub answered : List ℕ
   pub empties : ℕ
+  pub seen : ℕ
 
 -- the counts of a writer, against its end of the ring: how many bytes went through it, and for how
 -- many more it knows there to be place

@@ -31,7 +31,7 @@ fn queue(
 ) -> Result<(Producer<u8, Global>, Consumer<u8, Global>), NoMemory>
     ensures pair { IfOk result (λ q. IsPair q.0 q.1) }
     ensures producer { IfOk result (λ q. (sent q.0 ≡ []) × (known_free q.0 ≡ slots)) }
-    ensures consumer { IfOk result (λ q. received q.1 ≡ []) }
+    ensures consumer { IfOk result (λ q. (received q.1 ≡ []) × (known_items q.1 ≡ [])) }
 {
     match RingBuffer::new(alloc, slots) {
         Ok(ends) => Ok(ends),

@@ -1,5 +1,5 @@
 //! The ends of a down ring.
-ghost use Rattle.std.specs.Prelude.{◌≡◌, ℕ, ◌+◌, ◌-◌, ◌<◌, ◌≤◌, None, length};
+ghost use Rattle.std.specs.Prelude.{◌≡◌, ℕ, ◌+◌, ◌-◌, ◌<◌, ◌≤◌, None, Some, length};
 
 use rtrb::{Consumer, Producer};
 use std::alloc::Global;
@@ -49,8 +49,8 @@ pub struct RtrbTarget {
 }
 
 impl Model for RtrbTarget {
-    ghost use Rattle.std.specs.Prelude.{◌≡◌, ◌≤◌, length};
-    ghost use Rattle.rtrb.specs.Ring.{received};
+    ghost use Rattle.std.specs.Prelude.{◌≡◌, ◌+◌, ◌≤◌, min, length};
+    ghost use Rattle.rtrb.specs.Ring.{received, known_items};
     ghost use Rattle.sv_ring_rtrb.specs.Ends.{name_of, Takes};
 
     ghost Value = { Takes };
@@ -59,6 +59,7 @@ impl Model for RtrbTarget {
       name = name_of u.consumer.end;
       answered = received u.consumer;
       empties = u.empties;
+      seen = min 512 (length (received u.consumer) + length (known_items u.consumer));
     } };
 
     ghost invariant = { λ u. (u.count ≡ length (received u.consumer)) × (u.count ≤ 512) };
@@ -73,7 +74,7 @@ impl DownReader for RtrbTarget {
 
     ghost asked = { λ u. None };
 
-    ghost seen = { λ u. None };
+    ghost seen = { λ u. Some u.seen };
 
     ghost looks = { λ u. None };
 

@@ -1,5 +1,5 @@
 //! The reader of an up ring.
-ghost use Rattle.std.specs.Prelude.{◌≡◌, ℕ, ◌+◌, ◌-◌, ◌<◌, ◌≤◌, None, length, take};
+ghost use Rattle.std.specs.Prelude.{◌≡◌, ℕ, ◌+◌, ◌-◌, ◌<◌, ◌≤◌, None, Some, length, take};
 
 use rtrb::Consumer;
 use std::alloc::Global;
@@ -15,8 +15,8 @@ pub struct RtrbHost {
 }
 
 impl Model for RtrbHost {
-    ghost use Rattle.std.specs.Prelude.{◌≡◌, ◌≤◌, length};
-    ghost use Rattle.rtrb.specs.Ring.{received};
+    ghost use Rattle.std.specs.Prelude.{◌≡◌, ◌+◌, ◌≤◌, min, length};
+    ghost use Rattle.rtrb.specs.Ring.{received, known_items};
     ghost use Rattle.sv_ring_rtrb.specs.Ends.{name_of, Reads};
 
     ghost Value = { Reads };
@@ -25,6 +25,7 @@ impl Model for RtrbHost {
       name = name_of u.consumer.end;
       limit = u.limit;
       taken = received u.consumer;
+      seen = min u.limit (length (received u.consumer) + length (known_items u.consumer));
     } };
 
     ghost invariant = { λ u.
@@ -38,7 +39,7 @@ impl UpReader for RtrbHost {
 
     ghost taken = { λ u. u.taken };
 
-    ghost seen = { λ u. None };
+    ghost seen = { λ u. Some u.seen };
 
     ghost looks = { λ u. None };
 

@@ -46,7 +46,7 @@ same_command : (a b p q : ℕ) → a ≡ b → p ≡ q → command_at a p ≡ co
 same_command a b p q e f = cc
 
 -- bytes that begin with those of two commands begin with one
-same_first : (c d : Command) (xs ys : List ℕ) → HasParam c → HasParam d
+pub same_first : (c d : Command) (xs ys : List ℕ) → HasParam c → HasParam d
     → command_bytes c ++ xs ≡ command_bytes d ++ ys → c ≡ d
 same_first c d xs ys p q e = at (nat_lt c.byte 128) (nat_lt d.byte 128) refl refl e where
   heads : (a b : ℕ) (xs ys : List ℕ) → a ∷ xs ≡ b ∷ ys → a ≡ b
@@ -97,7 +97,7 @@ none_waits d bytes kept e waits = at (nat_lt d.byte 128) refl kept e waits where
       cc
 
 -- some bytes are those of no commands
-some_bytes : (c : Command) (xs : List ℕ) → command_bytes c ++ xs ≡ [] → ⊥
+pub some_bytes : (c : Command) (xs : List ℕ) → command_bytes c ++ xs ≡ [] → ⊥
 some_bytes c xs e = at (nat_lt c.byte 128) e where
   at : (a : Bool) → (if a then c.byte ∷ [] else c.byte ∷ c.param ∷ []) ++ xs ≡ [] → ⊥
   at true e = cc
@@ -147,6 +147,27 @@ bytes_few (c ∷ cs) =
       at : (a : Bool) → length (if a then c.byte ∷ [] else c.byte ∷ c.param ∷ []) ≤ 2
       at true = omega arith
       at false = omega arith
+
+-- one command more
+pub bytes_more : (load : Load) (sends : ℕ) (c : Command) → slice_get load.commands sends ≡ Some c
+    → sent_bytes load (suc sends) ≡ sent_bytes load sends ++ command_bytes c
+bytes_more load sends c is =
+    ap (flat_map command_bytes) (take_one sends load.commands c is)
+    ∙ (flat_map-append command_bytes (take sends load.commands) (c ∷ [])
+    ∙ ap (λ bs. sent_bytes load sends ++ bs) (append-nil (command_bytes c)))
+
+-- there is room for another in a ring of 512 bytes
+pub bytes_room : (load : Load) (sends : ℕ) → sends < length load.commands
+    → length load.commands ≤ 256 → length (sent_bytes load sends) ≤ 510
+bytes_room load sends below few =
+    let within : sends ≤ length load.commands = omega (arith, below) in
+    omega (
+      arith,
+      bytes_few (take sends load.commands),
+      length-take-le sends load.commands within,
+      below,
+      few,
+    )
 
 -- WHAT A SECTION FINDS
 
@@ -273,23 +294,14 @@ sent-send load old new sends h s =
       few = omega (arith, slice_get_within load.commands sends c s.is);
       waiting = h.waiting ++ c ∷ [];
       sent = sym (append_assoc (commands_in old.items) h.waiting (c ∷ []))
-          ∙ (ap (λ cs. cs ++ c ∷ []) h.sent ∙ sym longer);
-      asked = ap (option_map (λ bytes. bytes ++ command_bytes c)) h.asked ∙ ap (λ b. Some b) more;
+          ∙ (ap (λ cs. cs ++ c ∷ []) h.sent ∙ sym (take_one sends load.commands c s.is));
+      asked = ap (option_map (λ bytes. bytes ++ command_bytes c)) h.asked
+          ∙ ap (λ b. Some b) (sym (bytes_more load sends c s.is));
       answered = h.answered;
       kept = h.kept;
     })) where
       c : Command
       c = s.command
-
-      longer : take (suc sends) load.commands ≡ take sends load.commands ++ c ∷ []
-      longer = take_one sends load.commands c s.is
-
-      more : sent_bytes load sends ++ command_bytes c ≡ sent_bytes load (suc sends)
-      more =
-          sym
-          (ap (flat_map command_bytes) longer
-          ∙ (flat_map-append command_bytes (take sends load.commands) (c ∷ [])
-          ∙ ap (λ bs. sent_bytes load sends ++ bs) (append-nil (command_bytes c))))
 
 -- there is room for another
 pub sent-room : (load : Load) (r : Recording) (sends : ℕ) → HasSent load r sends
@@ -297,13 +309,7 @@ pub sent-room : (load : Load) (r : Recording) (sends : ℕ) → HasSent load r s
     → IfSome r.asked (λ bytes. length bytes ≤ 510)
 sent-room load r sends h below few =
     subst (λ a. IfSome a (λ bytes. length bytes ≤ 510)) (sym h.asked)
-    (omega (
-      arith,
-      bytes_few (take sends load.commands),
-      length-take-le sends load.commands h.few,
-      below,
-      few,
-    ))
+    (bytes_room load sends below few)
 
 -- a read changes nothing of it
 pub sent-read : (load : Load) (old new : Recording) (sends freed : ℕ) → HasSent load old sends

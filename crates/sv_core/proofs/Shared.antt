@@ -1,4 +1,5 @@
--- What crates above may use of the lemmas on journals and their streams.
+-- What crates above may use of the lemmas on journals, their streams and their commands.
+pub use Rattle.sv_core.proofs.Commands.{bytes_more, bytes_room, same_first, some_bytes}
 pub use Rattle.sv_core.proofs.ItemFacts.{no_ticks, ticks-cons, ticks_in}
 pub use Rattle.sv_core.proofs.reads.Tests.{and_no, by_test, clash, or_last}
 pub use Rattle.sv_core.proofs.reads.Fates.{Fate, fate, handling, ignoring, refusing, storing}

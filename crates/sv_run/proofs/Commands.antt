@@ -17,50 +17,7 @@ use Rattle.sv_journal.specs.declared.journal.Origin.TheVariants as origins
 use Rattle.sv_journal.specs.Legal.{IsLegal, EachItem, IsNextItem, IsCommandInPlace}
 use Rattle.sv_journal.specs.Legal.{command_in, commands_in, AreFirstCommands}
 use Rattle.sv_recorder.specs.Commands.{command_bytes, bytes_in, HasParam}
-
-command_at : ℕ → ℕ → Command
-command_at byte param = record { byte = byte; param = param }
-
-same_command : (a b p q : ℕ) → a ≡ b → p ≡ q → command_at a p ≡ command_at b q
-same_command a b p q e f = cc
-
--- bytes that begin with those of two commands begin with one
-same_first : (c d : Command) (xs ys : List ℕ) → HasParam c → HasParam d
-    → command_bytes c ++ xs ≡ command_bytes d ++ ys → c ≡ d
-same_first c d xs ys p q e = at (nat_lt c.byte 128) (nat_lt d.byte 128) refl refl e where
-  heads : (a b : ℕ) (xs ys : List ℕ) → a ∷ xs ≡ b ∷ ys → a ≡ b
-  heads a b xs ys e = cc
-
-  seconds : (a b m n : ℕ) (xs ys : List ℕ) → a ∷ (m ∷ xs) ≡ b ∷ (n ∷ ys) → m ≡ n
-  seconds a b m n xs ys e = cc
-
-  at : (a b : Bool) → nat_lt c.byte 128 ≡ a → nat_lt d.byte 128 ≡ b
-      → (if a then c.byte ∷ [] else c.byte ∷ c.param ∷ []) ++ xs
-      ≡ (if b then d.byte ∷ [] else d.byte ∷ d.param ∷ []) ++ ys → c ≡ d
-  at true true f g e =
-      same_command c.byte d.byte c.param d.param (heads c.byte d.byte xs ys e)
-      (p (search (rules, f)) ∙ sym (q (search (rules, g))))
-  at true false f g e =
-      let same : c.byte ≡ d.byte = heads c.byte d.byte xs (d.param ∷ ys) e in
-      let low : c.byte < 128 = search (rules, f) in
-      let high : 128 ≤ d.byte = search (rules, g) in
-      absurd (omega (arith, same, low, high))
-  at false true f g e =
-      let same : c.byte ≡ d.byte = heads c.byte d.byte (c.param ∷ xs) ys e in
-      let high : 128 ≤ c.byte = search (rules, f) in
-      let low : d.byte < 128 = search (rules, g) in
-      absurd (omega (arith, same, low, high))
-  at false false f g e =
-      same_command c.byte d.byte c.param d.param
-      (heads c.byte d.byte (c.param ∷ xs) (d.param ∷ ys) e)
-      (seconds c.byte d.byte c.param d.param xs ys e)
-
--- a command has some bytes
-some_bytes : (c : Command) (xs : List ℕ) → command_bytes c ++ xs ≡ [] → ⊥
-some_bytes c xs e = at (nat_lt c.byte 128) e where
-  at : (a : Bool) → (if a then c.byte ∷ [] else c.byte ∷ c.param ∷ []) ++ xs ≡ [] → ⊥
-  at true e = cc
-  at false e = cc
+use Rattle.sv_core.proofs.Shared.{same_first, some_bytes}
 
 -- bytes that begin with those of some commands are those of no others first
 first_of : (xs ys : List Command) (rest : List ℕ) → All HasParam xs → All HasParam ys

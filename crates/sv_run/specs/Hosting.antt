@@ -1,7 +1,7 @@
 -- The host of a run: what it sent, what it took, and what it made of that.
-use Rattle.std.specs.Prelude.{◌≡◌, ℕ, ◌^◌, ◌≤◌, List, length, take, flat_map}
+use Rattle.std.specs.Prelude.{◌≡◌, ℕ, ◌^◌, ◌≤◌, List, length}
 use Rattle.sv_workload.specs.Load.{Load}
-use Rattle.sv_recorder.specs.Commands.{command_bytes}
+use Rattle.sv_core.specs.Played.{sent_bytes}
 use Rattle.sv_analyse.specs.State.{State}
 use Rattle.sv_run.specs.Fed.{IsFed}
 
@@ -16,17 +16,13 @@ pub record Hosting : Type 0 where
   pub sends : ℕ
   pub analyser : State
 
--- the bytes of the workload's first commands, so many
-abbrev pub bytes_of_first : Load → ℕ → List ℕ
-bytes_of_first load sends = flat_map command_bytes (take sends load.commands)
-
 -- what a host keeps: it sent the first of the workload's commands, and its analyser has all that it
 -- took
 pub record IsHost (load : Load) (limit sends : ℕ) (taken asked : List ℕ) (analyser : State)
     : Type 0 where
   pub few : sends ≤ length load.commands
   pub most : length load.commands ≤ 256
-  pub asked_is : asked ≡ bytes_of_first load sends
+  pub asked_is : asked ≡ sent_bytes load sends
   pub limit_most : limit ≤ 2 ^ 33
   pub within : length taken ≤ limit
   pub fed : IsFed analyser taken

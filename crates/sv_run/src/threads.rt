@@ -58,13 +58,13 @@ fn write_all<
 }
 
 /// The host's turns, until so many writers have ended.
-fn host_turns<R: Wait, H: UpReader + Drop, W: DownWriter + Drop, G: Gate>(
+fn host_turns<'w, R: Wait, H: UpReader + Drop, W: DownWriter + Drop, G: Gate>(
     rt: &R,
     ended: &AtomicU64,
     started: u64,
-    host: Host<'_, H, W>,
+    host: Host<'w, H, W>,
     gate: &G,
-) -> Result<Host<'_, H, W>, NoMemory>
+) -> Result<Host<'w, H, W>, NoMemory>
     ensures { IfOk result (λ h. IsSameHost host h) }
 {
     let mut host = host;
@@ -104,7 +104,7 @@ fn run_threads<
     requires load { load.now ≡ J.load }
     ensures { IfOk result (λ h. IsSameHost host h) }
 {
-    thread::scope(thread::scope_env(), rt, move |scope| -> Result<Host<'w, H, W>, NoMemory>
+    thread::scope(thread::scope_env(), rt, move |scope| -> Result<Host<H, W>, NoMemory>
         requires { load.now ≡ J.load }
         ensures { IfOk result (λ h. IsSameHost host.entry h) }
     {

@@ -25,18 +25,18 @@ first_of : (xs ys : List Command) (rest : List ℕ) → All HasParam xs → All 
 first_of [] ys rest p q e = refl
 first_of (c ∷ cs) [] rest p q e =
     absurd (some_bytes c (flat_map command_bytes cs ++ rest)
-        (sym (append_assoc (command_bytes c) (flat_map command_bytes cs) rest) ∙ e))
+    (sym (append_assoc (command_bytes c) (flat_map command_bytes cs) rest) ∙ e))
 first_of (c ∷ cs) (d ∷ ds) rest p q e =
     let split : command_bytes c ++ (flat_map command_bytes cs ++ rest)
-        ≡ command_bytes d ++ flat_map command_bytes ds =
-        sym (append_assoc (command_bytes c) (flat_map command_bytes cs) rest) ∙ e in
+    ≡ command_bytes d ++ flat_map command_bytes ds =
+    sym (append_assoc (command_bytes c) (flat_map command_bytes cs) rest) ∙ e in
     let same : c ≡ d =
-        same_first c d (flat_map command_bytes cs ++ rest) (flat_map command_bytes ds)
-        (All-head HasParam c cs p) (All-head HasParam d ds q) split in
+    same_first c d (flat_map command_bytes cs ++ rest) (flat_map command_bytes ds)
+    (All-head HasParam c cs p) (All-head HasParam d ds q) split in
     let left : flat_map command_bytes cs ++ rest ≡ flat_map command_bytes ds =
-        append_cancel_left (command_bytes c) (flat_map command_bytes cs ++ rest)
-        (flat_map command_bytes ds)
-        (split ∙ ap (λ (x : Command). command_bytes x ++ flat_map command_bytes ds) (sym same)) in
+    append_cancel_left (command_bytes c) (flat_map command_bytes cs ++ rest)
+    (flat_map command_bytes ds)
+    (split ∙ ap (λ (x : Command). command_bytes x ++ flat_map command_bytes ds) (sym same)) in
     ap (λ (x : Command). x ∷ cs) same
     ∙ ap (λ (xs : List Command). d ∷ xs)
     (first_of cs ds rest (All-tail HasParam c cs p) (All-tail HasParam d ds q) left)
@@ -56,14 +56,14 @@ params_in : (load : Load) (l : List Item) → EachItem (IsNextItem load) l
 params_in load [] each = All-nil HasParam
 params_in load (i ∷ earlier) each =
     let cut : commands_in (reverse (i ∷ earlier))
-        ≡ commands_in (reverse earlier) ++ commands_in (i ∷ []) =
-        ap commands_in (reverse-append (i ∷ []) earlier)
-        ∙ flat_map-append (λ (x : Item). command_in x.origin) (reverse earlier) (i ∷ []) in
+    ≡ commands_in (reverse earlier) ++ commands_in (i ∷ []) =
+    ap commands_in (reverse-append (i ∷ []) earlier)
+    ∙ flat_map-append (λ (x : Item). command_in x.origin) (reverse earlier) (i ∷ []) in
     subst (All HasParam) (sym cut)
     (All-append HasParam (commands_in (reverse earlier)) (commands_in (i ∷ []))
-        (params_in load earlier each.0)
-        (All-append HasParam (command_in i.origin) []
-            (param_of load earlier i.origin each.1.command) (All-nil HasParam)))
+    (params_in load earlier each.0)
+    (All-append HasParam (command_in i.origin) []
+    (param_of load earlier i.origin each.1.command) (All-nil HasParam)))
 
 -- a journal whose commands' bytes are the first that were sent has the first commands
 pub first_commands : (load : Load) (items : List Item) (kept : List ℕ) → IsLegal load items
@@ -74,10 +74,10 @@ first_commands load items kept legal asked front =
     let all : List ℕ = flat_map command_bytes load.commands in
     let n : ℕ = length (bytes_in items ++ kept) in
     let whole : bytes_in items ++ (kept ++ drop n all) ≡ all =
-        sym (append_assoc (bytes_in items) kept (drop n all))
-        ∙ (ap (λ (l : List ℕ). l ++ drop n all) front ∙ take-append-drop n all) in
+    sym (append_assoc (bytes_in items) kept (drop n all))
+    ∙ (ap (λ (l : List ℕ). l ++ drop n all) front ∙ take-append-drop n all) in
     first_of (commands_in items) load.commands (kept ++ drop n all)
     (subst (λ (l : List Item). All HasParam (commands_in l)) (reverse-reverse items)
-        (params_in load (reverse items) legal.each))
-    (All-weaker IsAsked HasParam (λ c a. a.1.1) load.commands asked)
+    (params_in load (reverse items) legal.each))
+    (All-weaker IsAsked HasParam (λ c a. a.2) load.commands asked)
     whole

@@ -1,6 +1,9 @@
 //! The host's side of a run.
-ghost use Rattle.std.specs.Prelude.{◌≡◌, ℕ, ◌+◌, ◌^◌, ◌<◌, ◌≤◌, [], ◌++◌, IfOk, length};
+ghost use Rattle.std.specs.Prelude.{◌≡◌, ℕ, ◌+◌, ◌^◌, ◌<◌, ◌≤◌, List, [], ◌++◌, IfOk, OnOk, length};
+ghost use Rattle.std.specs.Prelude.{flat_map};
+ghost use Rattle.sv_stream.specs.Decoding.{pushed};
 ghost use Rattle.sv_recorder.specs.Commands.{command_bytes};
+ghost use Rattle.sv_run.specs.Fed.{IsFed};
 ghost use Rattle.sv_run.specs.Hosting.{IsSameHost};
 
 use std::alloc::Global;
@@ -57,6 +60,28 @@ fn send<W: DownWriter>(down: &mut W, command: Command)
     }
 }
 
+/// The analyser's input goes on with the piece.
+pub(crate) fn analyse(
+    analyser: &mut Analyser,
+    piece: &[u8],
+    spans: &mut Vec<Span>,
+) -> Result<(), NoMemory>
+    requires within { pushed analyser.old.decoder + length piece.now ≤ 2 ^ 33 }
+    ensures { OnOk result ((input : List ℕ) → IsFed analyser.old input →
+        IsFed analyser.new (input ++ piece.now)) }
+{
+    analyser.feed(piece, spans)
+}
+
+/// What a host leaves: its ends, and the analyser of what it took.
+#[derive(Drop)]
+pub(crate) struct Heard<H: UpReader + Drop, W: DownWriter + Drop> {
+    pub(crate) end: H,
+    pub(crate) down: W,
+    pub(crate) analyser: Analyser,
+    pub(crate) spans: Vec<Span>,
+}
+
 impl<'w, H: UpReader + Drop, W: DownWriter + Drop> Host<'w, H, W> {
     /// A host of two rings of which nothing was taken and to which nothing was sent. Takes no
     /// memory.
@@ -108,7 +133,7 @@ impl<'w, H: UpReader + Drop, W: DownWriter + Drop> Host<'w, H, W> {
     /// Reads into a buffer of 512 bytes, and analyses what came. The first answer is whether
     /// anything did. After NoMemory the ends are dropped.
     fn read(self) -> Result<(bool, Host<'w, H, W>), NoMemory>
-        ensures { IfOk result (λ r. IsSameHost self r.1) }
+        ensures { IfOk result (λ r. IsSameHost self.entry r.1) }
     {
         let Host {
             load,
@@ -122,7 +147,7 @@ impl<'w, H: UpReader + Drop, W: DownWriter + Drop> Host<'w, H, W> {
         let mut buf = [0; 512];
         let count = end.read(&mut buf);
         spans.clear();
-        analyser.feed(&buf[..count], &mut spans)?;
+        analyse(&mut analyser, &buf[..count], &mut spans)?;
         let host = Host {
             load,
             end,
@@ -138,12 +163,29 @@ impl<'w, H: UpReader + Drop, W: DownWriter + Drop> Host<'w, H, W> {
     /// A turn: the next command is sent, and what is in the ring is read. The first answer is
     /// whether anything was.
     pub(crate) fn turn<G: Gate>(self, gate: &G) -> Result<(bool, Host<'w, H, W>), NoMemory>
-        ensures { IfOk result (λ r. IsSameHost self r.1) }
+        ensures { IfOk result (λ r. IsSameHost self.entry r.1) }
     {
         let mut host = self;
         gate.before_read(host.turns);
         host.turns = host.turns.saturating_add(1);
         host.send_next();
         host.read()
+    }
+
+    /// Ends the host, which has sent all commands.
+    pub(crate) fn into_heard(self) -> Heard<H, W>
+        requires all { self.sends ≡ length self.load.commands }
+        ensures ring { H.ring result.end ≡ self.entry.ring }
+        ensures down { W.ring result.down ≡ self.entry.down }
+        ensures taken { H.taken result.end ≡ self.entry.taken }
+        ensures asked { W.asked result.down ≡ flat_map command_bytes self.entry.load.commands }
+        ensures fed { IsFed result.analyser self.entry.taken }
+    {
+        Heard {
+            end: self.end,
+            down: self.down,
+            analyser: self.analyser,
+            spans: self.spans,
+        }
     }
 }

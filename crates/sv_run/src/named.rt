@@ -11,13 +11,17 @@ use sv_ring::{DownReader, UpWriter};
 /// Which workload and which rings a run has. Each run picks them.
 pub(crate) trait Naming {
     ghost load: { Load };
+
     ghost up: { List (List ℕ) };
+
     ghost down: { List (List ℕ) };
 }
 
 impl Naming for Brand {
     ghost load = { no_load };
+
     ghost up = { [] };
+
     ghost down = { [] };
 }
 
@@ -47,8 +51,13 @@ impl<'w, J: Naming, U: UpWriter + Drop, D: DownReader + Drop, P: Describes + Dro
     ghost invariant = { λ n. IsNamed J.load J.up J.down n.recorder };
 }
 
-impl<'w, J: Naming, U: UpWriter + Drop, D: DownReader + Drop, P: Describes + Drop>
-    Named<'w, J, U, D, P> {
+impl<'w, J: Naming, U: UpWriter + Drop, D: DownReader + Drop, P: Describes + Drop> Named<
+    'w,
+    J,
+    U,
+    D,
+    P,
+> {
     pub(crate) fn new(recorder: Recorder<'w, U, D, P>) -> Named<'w, J, U, D, P>
         requires { IsNamed J.load J.up J.down recorder }
     {

@@ -50,12 +50,11 @@ fn round<U: UpWriter + Drop, D: DownReader + Drop, P: Describes + Drop>(
 }
 
 /// The steps that are left, until no writer has one.
-pub(crate) fn steps_left<
-    R: Wait,
-    U: UpWriter + Drop,
-    D: DownReader + Drop,
-    P: Describes + Drop,
->(rt: &R, recorder: &mut Recorder<'_, U, D, P>, writers: u32)
+pub(crate) fn steps_left<R: Wait, U: UpWriter + Drop, D: DownReader + Drop, P: Describes + Drop>(
+    rt: &R,
+    recorder: &mut Recorder<'_, U, D, P>,
+    writers: u32,
+)
     requires writers { writers ≡ length recorder.old.load.scripts }
     ensures load { recorder.new.load ≡ recorder.old.load }
     ensures ring { recorder.new.ring ≡ recorder.old.ring }

@@ -2,11 +2,13 @@ ghost use Rattle.std.specs.Prelude.{◌≡◌, [], OnOk};
 
 use super::*;
 use std::alloc::Global;
+use std::sync::Wait;
 use std::sync::atomic::{AtomicU64, Ordering};
 use std::test::*;
 use std::thread;
-use sv_base::{Gate, OpenGate};
-use sv_journal::{Item, Journal, Origin, Outcome};
+use std::thread::Threads;
+use sv_base::Gate;
+use sv_journal::{Item, Journal, Outcome};
 use sv_ring::{Dock, LogDock};
 use sv_ring_rtrb::RtrbDock;
 use sv_ring_rtt::RttDock;
@@ -16,6 +18,7 @@ use sv_workload::{Workload, parse};
 const MOST: u32 = 2_000_000;
 
 /// What the threads have reached, and whether one of them gave up.
+#[derive(Drop)]
 struct Marks {
     steps: AtomicU64,
     reads: AtomicU64,
@@ -42,6 +45,7 @@ fn wait_for(count: &AtomicU64, least: u64, late: &AtomicU64) {
 }
 
 /// The writer's second step and the host's second read wait for each other.
+#[derive(Drop)]
 struct Both(Marks);
 
 impl Gate for Both {
@@ -60,6 +64,7 @@ impl Gate for Both {
 }
 
 /// Each step of the writer waits for two more reads.
+#[derive(Drop)]
 struct ReadsFirst(Marks);
 
 impl Gate for ReadsFirst {
@@ -74,6 +79,7 @@ impl Gate for ReadsFirst {
 }
 
 /// The first read waits for the writer's 41st step, and that for the second read.
+#[derive(Drop)]
 struct ReadsLast(Marks);
 
 impl Gate for ReadsLast {
@@ -111,64 +117,86 @@ fn refused(items: &[Item]) -> usize {
         .count()
 }
 
-/// Runs the workload, and gives the items of its journal.
-fn journal_of<D: Dock, G: Gate>(
-    rt: &HostRuntime,
+/// Runs the workload, and gives its journal.
+fn journal_of<R: Threads + Wait + Sync, D: Dock, G: Gate>(
+    rt: &R,
+    alloc: Global,
     load: &Workload,
     dock: &mut D,
     gate: &G,
 ) -> Result<Journal, Fail> {
-    let mut journal = Journal::new(rt.alloc());
-    match run(rt, rt.alloc(), load, dock, gate, &mut journal) {
+    let mut journal = Journal::new(alloc);
+    match run(rt, alloc, load, dock, gate, &mut journal) {
         Ok(_) => Ok(journal),
         Err(_) => Err(Fail::from("no memory")),
     }
 }
 
+/// The bytes of the story that a dock has, which are those that were taken too.
+fn sent<D: Dock + Drop>(dock: &LogDock<D>) -> Result<&[u8], Fail> {
+    match dock.story() {
+        Some(story) if story.sent.bytes() == story.taken.bytes() => Ok(story.sent.bytes()),
+        _ => Err(Fail::from("no story, or two")),
+    }
+}
+
+fn two_at_once<R: Threads + Wait + Sync, D: Dock>(
+    rt: &R,
+    alloc: Global,
+    dock: &mut D,
+) -> Result<bool, Fail> {
+    let load = workload(alloc, 2)?;
+    let gate = Both(marks());
+    journal_of(rt, alloc, &load, dock, &gate)?;
+    Ok(gate.0.late.load(Ordering::SeqCst) == 0)
+}
+
 #[test]
 fn the_writer_and_the_host_are_two_threads(rt: HostRuntime) -> Result<(), Fail> {
-    let load = workload(rt.alloc(), 2)?;
-    let gate = Both(marks());
-    journal_of(&rt, &load, &mut RtrbDock::new(), &gate)?;
-    assert_eq!(rt; gate.0.late.load(Ordering::SeqCst), 0);
-    let gate = Both(marks());
-    journal_of(&rt, &load, &mut RttDock::new(), &gate)?;
-    assert_eq!(rt; gate.0.late.load(Ordering::SeqCst), 0);
+    assert!(rt; two_at_once(&rt, rt.alloc(), &mut RtrbDock::new())?);
+    assert!(rt; two_at_once(&rt, rt.alloc(), &mut RttDock::new())?);
     Ok(())
+}
+
+fn room_while_running<R: Threads + Wait + Sync, D: Dock + Drop>(
+    rt: &R,
+    alloc: Global,
+    dock: D,
+) -> Result<bool, Fail> {
+    let load = workload(alloc, 40)?;
+    let gate = ReadsFirst(marks());
+    let mut dock = LogDock::new(alloc, dock);
+    let journal = journal_of(rt, alloc, &load, &mut dock, &gate)?;
+    let in_time = gate.0.late.load(Ordering::SeqCst) == 0;
+    Ok(in_time && refused(journal.items()) == 0 && sent(&dock)?.len() == 154)
 }
 
 #[test]
 fn reads_make_room_while_the_writer_runs(rt: HostRuntime) -> Result<(), Fail> {
-    let load = workload(rt.alloc(), 40)?;
-    let gate = ReadsFirst(marks());
-    let mut dock = LogDock::new(rt.alloc(), RttDock::new());
-    let journal = journal_of(&rt, &load, &mut dock, &gate)?;
-    assert_eq!(rt; gate.0.late.load(Ordering::SeqCst), 0);
-    assert_eq!(rt; refused(journal.items()), 0);
-    let Some(story) = dock.story() else {
-        return Err(Fail::from("no story"));
-    };
-    assert_eq!(rt; story.sent.bytes().len(), 154);
-    assert_eq!(rt; story.sent.bytes(), story.taken.bytes());
+    assert!(rt; room_while_running(&rt, rt.alloc(), RtrbDock::new())?);
+    assert!(rt; room_while_running(&rt, rt.alloc(), RttDock::new())?);
     Ok(())
+}
+
+fn refused_until_read<R: Threads + Wait + Sync, D: Dock + Drop>(
+    rt: &R,
+    alloc: Global,
+    dock: D,
+) -> Result<bool, Fail> {
+    let load = workload(alloc, 40)?;
+    let gate = ReadsLast(marks());
+    let mut dock = LogDock::new(alloc, dock);
+    let journal = journal_of(rt, alloc, &load, &mut dock, &gate)?;
+    let in_time = gate.0.late.load(Ordering::SeqCst) == 0;
+    let counts = refused(journal.items()) == 30 && journal.items().len() == 76;
+    let bytes = sent(&dock)?;
+    let end: &[u8] = &[0x01, 0x1E, 0x1F, 0x0F, 0x05, 0x00];
+    Ok(in_time && counts && bytes.len() == 67 && bytes.ends_with(end))
 }
 
 #[test]
 fn calls_are_refused_while_nothing_was_read(rt: HostRuntime) -> Result<(), Fail> {
-    let load = workload(rt.alloc(), 40)?;
-    let gate = ReadsLast(marks());
-    let mut dock = LogDock::new(rt.alloc(), RttDock::new());
-    let journal = journal_of(&rt, &load, &mut dock, &gate)?;
-    assert_eq!(rt; gate.0.late.load(Ordering::SeqCst), 0);
-    assert_eq!(rt; refused(journal.items()), 30);
-    assert_eq!(rt; journal.items().len(), 76);
-    let Some(story) = dock.story() else {
-        return Err(Fail::from("no story"));
-    };
-    assert_eq!(rt; story.sent.bytes().len(), 67);
-    let Some(end) = story.sent.bytes().get(61..) else {
-        return Err(Fail::from("too short"));
-    };
-    assert_eq!(rt; end, [0x01, 0x1E, 0x1F, 0x0F, 0x05, 0x00].as_slice());
+    assert!(rt; refused_until_read(&rt, rt.alloc(), RtrbDock::new())?);
+    assert!(rt; refused_until_read(&rt, rt.alloc(), RttDock::new())?);
     Ok(())
 }

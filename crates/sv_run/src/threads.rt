@@ -17,13 +17,11 @@ use sv_ring::{DownReader, DownWriter, UpReader, UpWriter};
 use sv_workload::Workload;
 
 /// The next step of a writer, under the lock.
-fn step<
-    R: Wait,
-    J: Naming,
-    U: UpWriter + Drop,
-    D: DownReader + Drop,
-    P: Describes + Drop,
->(rt: &R, shared: &Mutex<Named<'_, J, U, D, P>>, writer: u32)
+fn step<R: Wait, J: Naming, U: UpWriter + Drop, D: DownReader + Drop, P: Describes + Drop>(
+    rt: &R,
+    shared: &Mutex<Named<'_, J, U, D, P>>,
+    writer: u32,
+)
     requires { writer < length J.load.scripts }
 {
     let mut named = shared.lock(rt);
@@ -65,7 +63,7 @@ fn host_turns<'w, R: Wait, H: UpReader + Drop, W: DownWriter + Drop, G: Gate>(
     host: Host<'w, H, W>,
     gate: &G,
 ) -> Result<Host<'w, H, W>, NoMemory>
-    ensures { IfOk result (λ h. IsSameHost host h) }
+    ensures { IfOk result (λ h. IsSameHost host.entry h) }
 {
     let mut host = host;
     for _ in rt.forever() {
@@ -102,25 +100,29 @@ fn run_threads<
     gate: &'x G,
 ) -> Result<Host<'w, H, W>, NoMemory>
     requires load { load.now ≡ J.load }
-    ensures { IfOk result (λ h. IsSameHost host h) }
+    ensures { IfOk result (λ h. IsSameHost host.entry h) }
 {
-    thread::scope(thread::scope_env(), rt, move |scope| -> Result<Host<H, W>, NoMemory>
-        requires { load.now ≡ J.load }
-        ensures { IfOk result (λ h. IsSameHost host.entry h) }
-    {
-        let mut started = 0;
-        for writer in 0..load.writers() {
-            let write = move ||
-                requires { (load.now ≡ J.load) × (writer < length J.load.scripts) }
-            {
-                write_all(rt, load, shared, ended, gate, writer);
-            };
-            if scope.spawn(write).is_ok() {
-                started += 1;
+    thread::scope(
+        thread::scope_env(),
+        rt,
+        move |scope| -> Result<Host<H, W>, NoMemory>
+            requires { load.now ≡ J.load }
+            ensures { IfOk result (λ h. IsSameHost host.entry h) }
+        {
+            let mut started = 0;
+            for writer in 0..load.writers() {
+                let thread = scope.spawn(
+                    move ||
+                        requires { (load.now ≡ J.load) × (writer < length J.load.scripts) }
+                    { write_all(rt, load, shared, ended, gate, writer) },
+                );
+                if thread.is_ok() {
+                    started += 1;
+                }
             }
-        }
-        host_turns(rt, ended, started, host, gate)
-    })
+            host_turns(rt, ended, started, host, gate)
+        },
+    )
 }
 
 /// Runs the recorder in threads beside the host. The steps of a thread that could not be started are
@@ -145,7 +147,7 @@ pub(crate) fn run_named<
     requires load { load.now ≡ J.load }
     requires recorder { IsNamed J.load J.up J.down recorder }
     ensures recorder { IfOk result (λ r. IsNamed J.load J.up J.down r.0) }
-    ensures host { IfOk result (λ r. IsSameHost host r.1) }
+    ensures host { IfOk result (λ r. IsSameHost host.entry r.1) }
 {
     let shared = Mutex::new(Named::<J, U, D, P>::new(recorder));
     let ended = AtomicU64::new(0);

@@ -3,9 +3,9 @@ ghost use Rattle.std.specs.Prelude.{◌≡◌, ℕ, ◌+◌, ◌^◌, ◌<◌, �
 ghost use Rattle.sv_journal.specs.Legal.{IsLegal, IsWhole};
 ghost use Rattle.sv_journal.specs.Stream.{stream_of};
 ghost use Rattle.sv_run.specs.Fed.{IsFed};
-ghost use Rattle.sv_run.specs.Ran.{HasStory};
+ghost use Rattle.sv_run.specs.Ran.{AreThrough, HasAnswered, HasStory};
 
-use crate::host::Host;
+use crate::host::{Host, analyse};
 use crate::rest::steps_left;
 use crate::threads::run_named;
 use std::alloc::Global;
@@ -18,8 +18,8 @@ use sv_desc::{Describe, Describes, micros_of, put_line};
 use sv_journal::Journal;
 use sv_need::within_need;
 use sv_prim::{Buf, NoMemory};
-use sv_recorder::Recorder;
-use sv_ring::{Dock, Ends};
+use sv_recorder::{Finished, Recorder};
+use sv_ring::{Dock, DownReader, Ends, UpWriter};
 use sv_workload::Workload;
 
 /// What a run gives.
@@ -29,8 +29,29 @@ struct Ran {
     analyser: Analyser,
 }
 
+/// The end of a recorder whose scripts are through.
+fn finish<U: UpWriter + Drop, D: DownReader + Drop, P: Describes + Drop>(
+    load: &Workload,
+    recorder: Recorder<'_, U, D, P>,
+) -> Finished<U, D>
+    requires load { recorder.load ≡ load.now }
+    requires through { AreThrough recorder.load recorder.items }
+    ensures legal { IsLegal load.now result.journal.items }
+    ensures through { AreThrough load.now result.journal.items }
+    ensures sent { U.sent result.up ≡ stream_of load.now result.journal.items }
+    ensures short { length (stream_of load.now result.journal.items) < 181000000 }
+    ensures ring { U.ring result.up ≡ recorder.entry.ring }
+    ensures size { U.size result.up ≡ recorder.entry.size }
+    ensures down { D.ring result.down ≡ recorder.entry.down }
+    ensures answered { HasAnswered result.journal.items (D.answered result.down) }
+{
+    load.writers();
+    within_need();
+    recorder.keeps();
+    recorder.finish()
+}
+
 /// A run with these callbacks, which are for the workload's lines and clock.
-#[tactic(auto, using(crate::proofs::Commands::first_commands))]
 fn run_with<R: Threads + Wait + Sync, D: Dock, P: Describes + Send + Drop, G: Gate>(
     rt: &R,
     alloc: Global,
@@ -59,36 +80,24 @@ fn run_with<R: Threads + Wait + Sync, D: Dock, P: Describes + Send + Drop, G: Ga
     let recorder = Recorder::new(alloc, load, up, target, desc)?;
     let host = Host::new(alloc, load, host, down);
     let (mut recorder, mut host) = run_named::<R, Brand, D::Up, D::Target, P, D::Host, D::Down, G>(
-        rt,
-        load,
-        recorder,
-        host,
-        gate,
+        rt, load, recorder, host, gate,
     )?;
     host.send_left();
     steps_left(rt, &mut recorder, load.writers());
-    recorder.keeps();
-    within_need();
-    let done = recorder.finish();
-    let Host {
-        end,
-        down,
-        mut analyser,
-        mut spans,
-        load: _,
-        sends: _,
-        turns: _,
-    } = host;
+    let done = finish(load, recorder);
+    let heard = host.into_heard();
     let rest = dock.settle(
         alloc,
         Ends {
             up: done.up,
-            host: end,
-            down,
+            host: heard.end,
+            down: heard.down,
             target: done.down,
         },
     )?;
-    analyser.feed(&rest, &mut spans)?;
+    let mut analyser = heard.analyser;
+    let mut spans = heard.spans;
+    analyse(&mut analyser, &rest, &mut spans)?;
     Ok(Ran {
         journal: done.journal,
         analyser,

@@ -11,5 +11,5 @@ invariant-loop-writer g l =
     × (l.recorder.down ≡ l.initial.recorder.down)
     × (l.recorder.size ≡ l.initial.recorder.size)
     × (l.through ≡ true → (writer : ℕ) → writer < l.writer
-        → count_by (λ i. is_call_of writer i.origin) l.recorder.items
-        ≡ length (script_of l.recorder.load writer))
+    → count_by (λ i. is_call_of writer i.origin) l.recorder.items
+    ≡ length (script_of l.recorder.load writer))

@@ -1,0 +1,4 @@
+pub mod Fed
+pub mod Hosting
+pub mod Named
+pub mod Ran

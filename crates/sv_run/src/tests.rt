@@ -8,7 +8,7 @@ use std::test::*;
 use std::thread;
 use std::thread::Threads;
 use sv_base::Gate;
-use sv_journal::{Item, Journal, Outcome};
+use sv_journal::{Item, Journal, Origin, Outcome};
 use sv_ring::{Dock, LogDock};
 use sv_ring_rtrb::RtrbDock;
 use sv_ring_rtt::RttDock;
@@ -113,10 +113,13 @@ fn workload(alloc: Global, marks: u32) -> Result<Workload, Fail> {
     }
 }
 
+/// How many calls were refused.
 fn refused(items: &[Item]) -> usize {
     items
         .iter()
-        .filter(|item| item.outcome == Outcome::Refused)
+        .filter(|item| {
+            matches!(item.origin, Origin::Call { .. }) && item.outcome == Outcome::Refused
+        })
         .count()
 }
 

@@ -8,7 +8,7 @@ use std::test::*;
 use std::thread;
 use std::thread::Threads;
 use sv_base::Gate;
-use sv_journal::{Item, Journal, Outcome};
+use sv_journal::{Item, Journal, Origin, Outcome};
 use sv_ring::{Dock, LogDock};
 use sv_ring_rtrb::RtrbDock;
 use sv_ring_rtt::RttDock;
@@ -25,7 +25,7 @@ struct Marks {
     late: AtomicU64,
 }
 
-fn marks() -> Marks {
+fn no_marks() -> Marks {
     Marks {
         steps: AtomicU64::new(0),
         reads: AtomicU64::new(0),
@@ -104,16 +104,22 @@ fn workload(alloc: Global, marks: u32) -> Result<Workload, Fail> {
     for _ in 0..marks {
         text.extend_from_slice(b"1 mark 5\n")?;
     }
+    if text.len() > 1000 {
+        return Err(Fail::from("too long"));
+    }
     match parse(alloc, &text) {
         Ok(load) => Ok(load),
         Err(_) => Err(Fail::from("no workload")),
     }
 }
 
+/// How many calls were refused.
 fn refused(items: &[Item]) -> usize {
     items
         .iter()
-        .filter(|item| item.outcome == Outcome::Refused)
+        .filter(|item| {
+            matches!(item.origin, Origin::Call { .. }) && item.outcome == Outcome::Refused
+        })
         .count()
 }
 
@@ -146,7 +152,7 @@ fn two_at_once<R: Threads + Wait + Sync, D: Dock>(
     dock: &mut D,
 ) -> Result<bool, Fail> {
     let load = workload(alloc, 2)?;
-    let gate = Both(marks());
+    let gate = Both(no_marks());
     journal_of(rt, alloc, &load, dock, &gate)?;
     Ok(gate.0.late.load(Ordering::SeqCst) == 0)
 }
@@ -164,7 +170,7 @@ fn room_while_running<R: Threads + Wait + Sync, D: Dock + Drop>(
     dock: D,
 ) -> Result<bool, Fail> {
     let load = workload(alloc, 40)?;
-    let gate = ReadsFirst(marks());
+    let gate = ReadsFirst(no_marks());
     let mut dock = LogDock::new(alloc, dock);
     let journal = journal_of(rt, alloc, &load, &mut dock, &gate)?;
     let in_time = gate.0.late.load(Ordering::SeqCst) == 0;
@@ -184,7 +190,7 @@ fn refused_until_read<R: Threads + Wait + Sync, D: Dock + Drop>(
     dock: D,
 ) -> Result<bool, Fail> {
     let load = workload(alloc, 40)?;
-    let gate = ReadsLast(marks());
+    let gate = ReadsLast(no_marks());
     let mut dock = LogDock::new(alloc, dock);
     let journal = journal_of(rt, alloc, &load, &mut dock, &gate)?;
     let in_time = gate.0.late.load(Ordering::SeqCst) == 0;

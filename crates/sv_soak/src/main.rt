@@ -88,7 +88,7 @@ fn count<R: Threads + Wait + Sync>(
     times: u32,
     load: &Workload,
 ) -> Option<u32> {
-    let mut alike = 0;
+    let mut alike = 0u32;
     for _ in 0..times {
         let is_good = match (is_bench, dock) {
             (true, "rtrb") => is_run(rt, alloc, load, RtrbDock::new())?,
@@ -98,24 +98,34 @@ fn count<R: Threads + Wait + Sync>(
             _ => return None,
         };
         if is_good {
-            alike += 1;
+            alike = alike.saturating_add(1);
         }
     }
     Some(alike)
 }
 
-/// Does what the words ask for. None is words that ask for nothing, or a run that could not be.
-fn answer(rt: HostRuntime, words: &[&str]) -> Option<bool> {
+/// What the words ask for.
+#[derive(Clone, Copy)]
+struct Asked<'a> {
+    is_bench: bool,
+    dock: &'a str,
+    times: u32,
+    name: &'a str,
+}
+
+/// Reads the words. None where they ask for nothing.
+fn read<'a>(words: &[&'a str]) -> Option<Asked<'a>> {
     let (is_bench, dock, times, name) = match words {
         ["bench", dock, times, name] => (true, dock, times, name),
         [dock, times, name] => (false, dock, times, name),
         _ => return None,
     };
-    let times = times.parse::<u32>().ok()?;
-    let load = workload(rt, name)?;
-    let alike = count(&rt, rt.alloc(), is_bench, dock, times, &load)?;
-    println!(rt; "runs {times}\nalike {alike}");
-    Some(alike == times)
+    Some(Asked {
+        is_bench,
+        dock,
+        times: times.parse::<u32>().ok()?,
+        name,
+    })
 }
 
 fn main(rt: HostRuntime) -> ExitCode {
@@ -134,9 +144,24 @@ fn main(rt: HostRuntime) -> ExitCode {
             return ExitCode::from(2);
         }
     }
-    match answer(rt, &words) {
-        Some(true) => ExitCode::from(0),
-        Some(false) => ExitCode::from(1),
+    let Some(asked) = read(&words) else {
+        return ExitCode::from(2);
+    };
+    let Some(load) = workload(rt, asked.name) else {
+        return ExitCode::from(2);
+    };
+    match count(
+        &rt,
+        rt.alloc(),
+        asked.is_bench,
+        asked.dock,
+        asked.times,
+        &load,
+    ) {
+        Some(alike) => {
+            let _ = println!(rt; "runs {}\nalike {alike}", asked.times);
+            ExitCode::from(if alike == asked.times { 0 } else { 1 })
+        }
         None => ExitCode::from(2),
     }
 }

@@ -7,6 +7,7 @@ pub mod Pieces
 pub mod Ended
 pub mod Files
 pub mod SameWords
+pub mod Requests
 pub mod Timelines
 pub mod Reported
 pub mod Lives

@@ -1,12 +1,17 @@
 -- Parts of a text that are written.
 use Rattle.std.proofs.Common.{◌≡◌, ℕ, ◌+◌, ◌≤◌, List, [], ◌∷◌, ◌++◌, refl, length, take, drop}
 use Rattle.std.proofs.Common.{Option, Some, None, Result, Ok, Err, sym, ap, ◌∙◌, subst, arith}
-use Rattle.std.specs.Prelude.{OnErr}
+use Rattle.std.specs.Prelude.{OnOk, OnErr}
 use Rattle.std.specs.Io.KnownBytes.{Appends}
 use Rattle.std.proofs.lemmas.List.{append-nil, length-take, take-append-drop, take-append-le}
 use Rattle.std.proofs.Math.Seq.{take-append_seam, take-append-add}
 use Rattle.sv_base.specs.Streams.{AppendsPart}
 use Rattle.sv_base.proofs.Shared.{Appends-then}
+
+-- a fact stands whatever the value is
+pub on_ok : {T E : Type 0} {P : Type 0} (r : Result T E) → P → OnOk r P
+on_ok (Ok value) p = p
+on_ok (Err e) p = tt
 
 -- a fact stands whatever the error is
 pub on_err : {T E : Type 0} {P : Type 0} (r : Result T E) → P → OnErr r P

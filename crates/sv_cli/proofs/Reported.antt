@@ -1,6 +1,6 @@
 -- The report of the bytes that a run has sent.
-use Rattle.std.proofs.Common.{◌≡◌, Bool, true, false, List, ℕ, Result, Ok, Err, sym, ap, ◌∙◌, subst}
-use Rattle.std.proofs.Common.{inl, inr}
+use Rattle.std.proofs.Common.{◌≡◌, Bool, true, false, List, [], ℕ, Result, Ok, Err}
+use Rattle.std.proofs.Common.{refl, sym, ap, ◌∙◌, subst, inl, inr}
 use Rattle.std.specs.Prelude.{◌⊎◌, IfOk}
 use Rattle.sv_prim.specs.Text.{AreBytes}
 use Rattle.sv_packet.specs.declared.event.Packet.{Packet}
@@ -61,3 +61,33 @@ pub then_if : {A E : Type 0} {P Q : A → Type 0} (r : Result A E) → IfOk r P
     → ((x : A) → P x → Q x) → IfOk r Q
 then_if (Ok value) p f = f value p
 then_if (Err e) p f = tt
+
+module _ (load : Load) (items : List Item) (sent : List Packet)
+    (clean : has_start load items ≡ true → Reads (stream_of load items) sent ends.Clean)
+    (silent : has_start load items ≡ false → stream_of load items ≡ [])
+    (end_is : (packets : List Packet) (end : End) → Reads (stream_of load items) packets end
+    → ((has_start load items ≡ true) × (end ≡ ends.Clean))
+    ⊎ ((has_start load items ≡ false) × (end ≡ ends.NoSync))) where
+  -- the stream of a journal reads, with a start or without
+  stream_reads : (started : Bool) → has_start load items ≡ started
+      → (packets : List Packet) × Reads (stream_of load items) packets (sent_end started)
+  stream_reads true is = (sent, clean is)
+  stream_reads false is =
+      let r = reading [] tt in
+      let reads = subst (λ (bs : List ℕ). Reads bs r.0 r.1) (sym (silent is)) r.2 in
+      let end = ends_so (has_start load items) r.1 (end_is r.0 r.1 reads) ∙ ap sent_end is in
+      (r.0, subst (λ (e : End). Reads (stream_of load items) r.0 e) end reads)
+
+  -- the text of a report of it is written
+  pub report_of_stream : (text : Report → List ℕ) (report : Report) (lines : List ℕ)
+      → ((packets : List Packet) (end : End) → Reads (stream_of load items) packets end
+      → report ≡ report_of packets end)
+      → lines ≡ text report → IsReportText text load items lines
+  report_of_stream text report lines reports told =
+      let started = has_start load items in
+      let r = stream_reads started refl in
+      record {
+        packets = r.0;
+        reads = r.1;
+        made_is = told ∙ ap text (reports r.0 (sent_end started) r.1);
+      }

@@ -9,6 +9,7 @@ use Rattle.std.specs.Borrow.{Bor}
 use Rattle.std.specs.Str.{bytes_eq}
 use Rattle.sv_report.specs.ReportText.{text_of}
 use Rattle.sv_journal.specs.declared.journal.Item.{Item}
+use Rattle.sv_core.specs.Simulated.{IsSimulated}
 use Rattle.sv_cli.specs.declared.command.Command.{Command}
 use Rattle.sv_cli.specs.declared.command.Command.TheVariants.{Events, Check, Timeline, Report}
 use Rattle.sv_cli.specs.declared.command.Command.TheVariants.{Live, Simulate, Record}
@@ -123,10 +124,10 @@ Means held left (Some (lives size)) name old new items status =
     (λ file taken. IsLive size taken (taken ≡ file) old new status × (items ≡ []))
 Means held left (Some simulates) name old new items status =
     OfFile (held name) left
-    (λ file taken. IsRecorded (IsReportText text_of) file taken old new items status)
+    (λ file taken. IsRecorded IsSimulated (IsReportText text_of) file taken old new items status)
 Means held left (Some records) name old new items status =
     OfFile (held name) left
-    (λ file taken. IsRecorded IsRecordingText file taken old new items status)
+    (λ file taken. IsRecorded IsSimulated IsRecordingText file taken old new items status)
 Means held left (Some (generates number)) name old new items status =
     IsGenerated number old new items status
 Means held left None name old new items status = ⊥

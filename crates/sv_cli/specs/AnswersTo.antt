@@ -2,6 +2,7 @@
 use Rattle.std.specs.Prelude.{◌≡◌, ℕ, List, [], Option}
 use Rattle.sv_report.specs.ReportText.{text_of}
 use Rattle.sv_journal.specs.declared.journal.Item.{Item}
+use Rattle.sv_core.specs.Simulated.{IsSimulated}
 use Rattle.sv_cli.specs.declared.command.Command.{Command}
 use Rattle.sv_cli.specs.declared.command.Command.TheVariants.{Events, Check, Timeline, Report}
 use Rattle.sv_cli.specs.declared.command.Command.TheVariants.{Live, Simulate, Record}
@@ -37,9 +38,9 @@ AnswersTo held left (Live size name) old new items status =
     (λ file taken. IsLive size taken (taken ≡ file) old new status × (items ≡ []))
 AnswersTo held left (Simulate name) old new items status =
     OfFile (held name.now) left
-    (λ file taken. IsRecorded (IsReportText text_of) file taken old new items status)
+    (λ file taken. IsRecorded IsSimulated (IsReportText text_of) file taken old new items status)
 AnswersTo held left (Record name) old new items status =
     OfFile (held name.now) left
-    (λ file taken. IsRecorded IsRecordingText file taken old new items status)
+    (λ file taken. IsRecorded IsSimulated IsRecordingText file taken old new items status)
 AnswersTo held left (Generate number) old new items status =
     IsGenerated number old new items status

@@ -10,7 +10,7 @@ use Rattle.sv_cli.specs.declared.status.Status.TheVariants.{TooLong, NoMemory}
 abbrev pub usage_line : List ℕ
 usage_line =
     codes "usage: sysview events F | check F | timeline F | report F | live N F | simulate W | "
-    ++ codes "record W | generate N\n"
+    ++ codes "record W | run W | generate N\n"
 
 -- one line for each status but Done
 abbrev pub error_line : Status → List ℕ

@@ -7,6 +7,7 @@ pub mod commands
 pub mod Answer
 pub mod Recorded
 pub mod AnswersTo
+pub mod Request
 pub mod Scan
 pub mod Live
 pub mod Reading

@@ -1,5 +1,5 @@
--- What `record` and `simulate` make of a workload's text, and `generate` of a number, and what they
--- answer where a device fails.
+-- What `record`, `simulate` and `run` make of a workload's text, and `generate` of a number, and
+-- what they answer where a device fails.
 use Rattle.std.specs.Prelude.{◌≡◌, ℕ, ◌^◌, ◌<◌, ◌≤◌, Bool, true, false, List, [], ◌++◌, length}
 use Rattle.std.specs.Prelude.{Option, Some, codes}
 use Rattle.std.specs.Io.KnownBytes.{Appends}
@@ -8,6 +8,7 @@ use Rattle.sv_packet.specs.declared.event.Packet.{Packet}
 use Rattle.sv_stream.specs.declared.end.End.{End}
 use Rattle.sv_stream.specs.declared.end.End.TheVariants as ends
 use Rattle.sv_stream.specs.Reads.{Reads}
+use Rattle.sv_ring.specs.declared.story.Story.{Story}
 use Rattle.sv_analyse.specs.declared.report.Report.{Report}
 use Rattle.sv_analyse.specs.Report.{report_of}
 use Rattle.sv_report.specs.ReportText.{short_text_of}
@@ -15,10 +16,12 @@ use Rattle.sv_workload.specs.Load.{Load}
 use Rattle.sv_workload.specs.Grammar.{first_reason, IsWorkload}
 use Rattle.sv_workload.specs.Generated.{generated_load}
 use Rattle.sv_journal.specs.declared.journal.Item.{Item}
+use Rattle.sv_journal.specs.Legal.{IsLegal, IsWhole}
 use Rattle.sv_journal.specs.Stream.{stream_of}
 use Rattle.sv_core.specs.Simulated.{IsSimulated}
 use Rattle.sv_core.specs.Start.{has_start}
 use Rattle.sv_truth.specs.Truth.{TellsTruly}
+use Rattle.sv_run.specs.Ran.{HasStory}
 use Rattle.sv_cli.specs.declared.simulated.Unsimulated.{Unsimulated}
 use Rattle.sv_cli.specs.declared.simulated.Unsimulated.TheVariants as faults
 use Rattle.sv_cli.specs.declared.status.Status.{Status}
@@ -34,12 +37,19 @@ most_of_workload = 2 ^ 26
 abbrev pub header : List ℕ
 header = codes "; sysview recording\n"
 
--- this is said of the workload, and the journal is that of its simulation, whose stream names
--- nothing that is not true of all calls, the lost ones included
-pub record IsRun (says : Load → Type 0) (load : Load) (items : List Item) : Type 0 where
+-- this is said of the workload, this has happened by the journal, and its stream names nothing that
+-- is not true of all calls, the lost ones included
+pub record IsRun (says : Load → Type 0) (happens : Load → List Item → Type 0) (load : Load)
+    (items : List Item) : Type 0 where
   pub said : says load
-  pub simulated : IsSimulated load items
+  pub happened : happens load items
   pub names : TellsTruly load items
+
+-- the journal is one of a run in threads, of which the dock tells where it tells its stories
+pub record HasRun (before now : Option (List Story)) (load : Load) (items : List Item) : Type 0 where
+  pub legal : IsLegal load items
+  pub whole : IsWhole load items
+  pub story : HasStory load items before now
 
 -- what `record` writes of a journal
 abbrev pub IsRecordingText : Load → List Item → List ℕ → Type 0
@@ -50,8 +60,8 @@ abbrev pub sent_end : Bool → End
 sent_end true = ends.Clean
 sent_end false = ends.NoSync
 
--- what `simulate` and `generate` write of a journal: a text of the report of the bytes that were
--- sent
+-- what `simulate`, `run` and `generate` write of a journal: a text of the report of the bytes that
+-- were sent
 pub record IsReportText (text : Report → List ℕ) (load : Load) (items : List Item)
     (made : List ℕ) : Type 0 where
   pub packets : List Packet
@@ -59,54 +69,56 @@ pub record IsReportText (text : Report → List ℕ) (load : Load) (items : List
   pub made_is : made ≡ text (report_of packets (sent_end (has_start load items)))
 
 -- all that a command makes of a run is written, which has a start or not
-pub record IsRecording (makes : Load → List Item → List ℕ → Type 0) (says : Load → Type 0)
-    (old new : Option (List ℕ)) (items : List Item) (started : Bool) : Type 0 where
+pub record IsRecording (runs : Load → List Item → Type 0)
+    (makes : Load → List Item → List ℕ → Type 0) (old new : Option (List ℕ)) (items : List Item)
+    (started : Bool) : Type 0 where
   pub load : Load
-  pub run : IsRun says load items
+  pub run : runs load items
   pub start : has_start load items ≡ started
   pub made : List ℕ
   pub makes_it : makes load items made
   pub written : Appends old new made
 
 -- a part of it is written
-pub record IsRecordingPart (makes : Load → List Item → List ℕ → Type 0) (says : Load → Type 0)
-    (old new : Option (List ℕ)) (items : List Item) : Type 0 where
-  pub load : Load
-  pub run : IsRun says load items
-  pub made : List ℕ
-  pub makes_it : makes load items made
-  pub part : AppendsPart old new made
+pub record IsRecordingPart (runs : Load → List Item → Type 0)
+    (makes : Load → List Item → List ℕ → Type 0) (old new : Option (List ℕ)) (items : List Item) : Type 0
+  where
+    pub load : Load
+    pub run : runs load items
+    pub made : List ℕ
+    pub makes_it : makes load items made
+    pub part : AppendsPart old new made
 
 -- nothing is written, and there is no journal
 abbrev pub IsNothing : Option (List ℕ) → Option (List ℕ) → List Item → Type 0
 IsNothing old new items = Appends old new [] × (items ≡ [])
 
 -- the answer over a text that was read whole
-abbrev pub IsTextRecorded : (Load → List Item → List ℕ → Type 0) → List ℕ → Option (List ℕ)
-    → Option (List ℕ) → List Item → Status → Type 0
-IsTextRecorded makes text old new items Done =
-    IsRecording makes (IsWorkload text) old new items true
-IsTextRecorded makes text old new items NoSync =
-    IsRecording makes (IsWorkload text) old new items false
-IsTextRecorded makes text old new items WriteFault =
-    IsRecordingPart makes (IsWorkload text) old new items
-IsTextRecorded makes text old new items (Workload line reason) =
+abbrev pub IsTextRecorded : (Load → List Item → Type 0) → (Load → List Item → List ℕ → Type 0)
+    → List ℕ → Option (List ℕ) → Option (List ℕ) → List Item → Status → Type 0
+IsTextRecorded happens makes text old new items Done =
+    IsRecording (IsRun (IsWorkload text) happens) makes old new items true
+IsTextRecorded happens makes text old new items NoSync =
+    IsRecording (IsRun (IsWorkload text) happens) makes old new items false
+IsTextRecorded happens makes text old new items WriteFault =
+    IsRecordingPart (IsRun (IsWorkload text) happens) makes old new items
+IsTextRecorded happens makes text old new items (Workload line reason) =
     (first_reason text ≡ Some (line, reason)) × IsNothing old new items
-IsTextRecorded makes text old new items NoMemory = IsNothing old new items
-IsTextRecorded makes text old new items other = ⊥
+IsTextRecorded happens makes text old new items NoMemory = IsNothing old new items
+IsTextRecorded happens makes text old new items other = ⊥
 
 -- the answer over a file's bytes, of which so many were taken: no more than a workload may have,
 -- and one piece
-abbrev pub IsRecorded : (Load → List Item → List ℕ → Type 0) → List ℕ → List ℕ → Option (List ℕ)
-    → Option (List ℕ) → List Item → Status → Type 0
-IsRecorded makes file taken old new items ReadFault =
+abbrev pub IsRecorded : (Load → List Item → Type 0) → (Load → List Item → List ℕ → Type 0)
+    → List ℕ → List ℕ → Option (List ℕ) → Option (List ℕ) → List Item → Status → Type 0
+IsRecorded happens makes file taken old new items ReadFault =
     (length taken ≤ most_of_workload) × IsNothing old new items
-IsRecorded makes file taken old new items (TooLong limit) =
+IsRecorded happens makes file taken old new items (TooLong limit) =
     (limit ≡ most_of_workload) × (most_of_workload < length taken) × IsNothing old new items
-IsRecorded makes file taken old new items NoMemory = IsNothing old new items
-IsRecorded makes file taken old new items other =
+IsRecorded happens makes file taken old new items NoMemory = IsNothing old new items
+IsRecorded happens makes file taken old new items other =
     (taken ≡ file) × (length file ≤ most_of_workload)
-    × IsTextRecorded makes file old new items other
+    × IsTextRecorded happens makes file old new items other
 
 -- the workload is the one of the number
 abbrev pub IsOfNumber : ℕ → Load → Type 0
@@ -115,9 +127,11 @@ IsOfNumber number load = load ≡ generated_load number
 -- the answer of a number: the counts of the report of its workload's simulation, which has a start
 abbrev pub IsGenerated : ℕ → Option (List ℕ) → Option (List ℕ) → List Item → Status → Type 0
 IsGenerated number old new items Done =
-    IsRecording (IsReportText short_text_of) (IsOfNumber number) old new items true
+    IsRecording (IsRun (IsOfNumber number) IsSimulated) (IsReportText short_text_of) old new items
+    true
 IsGenerated number old new items WriteFault =
-    IsRecordingPart (IsReportText short_text_of) (IsOfNumber number) old new items
+    IsRecordingPart (IsRun (IsOfNumber number) IsSimulated) (IsReportText short_text_of) old new
+    items
 IsGenerated number old new items NoMemory = IsNothing old new items
 IsGenerated number old new items other = ⊥
 

@@ -37,7 +37,7 @@ pub fn usage() -> &'static str
     ensures { result.now ≡ usage_line }
 {
     "usage: sysview events F | check F | timeline F | report F | live N F | simulate W | \
-     record W | generate N\n"
+     record W | run W | generate N\n"
 }
 
 /// The number that a word says: from 1 to `most`, in decimal with no zero before it.

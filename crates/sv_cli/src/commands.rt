@@ -4,5 +4,6 @@ pub mod events;
 pub mod generate;
 pub mod record;
 pub mod report;
+pub mod run;
 pub mod simulate;
 pub mod timeline;

@@ -3,6 +3,7 @@ ghost use Rattle.std.specs.Prelude.{◌≡◌, ◌≤◌, ◌^◌, ◌++◌, [],
 ghost use Rattle.std.specs.Io.KnownBytes.{Appends};
 ghost use Rattle.sv_base.specs.Causes.{BlamesLast};
 ghost use Rattle.sv_base.specs.Streams.{AppendsPart};
+ghost use Rattle.sv_core.specs.Simulated.{IsSimulated};
 ghost use Rattle.sv_cli.specs.Recorded.{header, is_unwritten, IsTextRecorded, IsRecordingText};
 
 use crate::simulated::{Simulation, Unsimulated, simulated};
@@ -35,7 +36,7 @@ pub fn record_text<K: Sink>(
 ) -> Status
     requires short { length text.now ≤ 2 ^ 26 }
     requires empty { journal.old.items ≡ [] }
-    ensures recorded { IsTextRecorded IsRecordingText text.now
+    ensures recorded { IsTextRecorded IsSimulated IsRecordingText text.now
         (K.written out.old) (K.written out.new) journal.new.items result }
     ensures unwritten { is_unwritten result ≡ true → out.new ≡ out.old }
     ensures sink { BlamesLast (result ≡ Status.WriteFault)

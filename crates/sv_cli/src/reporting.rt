@@ -7,6 +7,7 @@ ghost use Rattle.sv_stream.specs.Reads.{Reads};
 ghost use Rattle.sv_analyse.specs.Report.{report_of};
 ghost use Rattle.sv_report.specs.ReportText.{text_of};
 ghost use Rattle.sv_base.specs.Causes.{BlamesLast};
+ghost use Rattle.sv_core.specs.Simulated.{IsSimulated};
 ghost use Rattle.sv_cli.specs.Recorded.{is_unwritten, IsTextRecorded, IsReportText};
 
 use crate::simulated::{Simulation, Unsimulated, simulated};
@@ -36,7 +37,7 @@ pub fn report_of_bytes(alloc: Global, bytes: &[u8]) -> Result<Report, NoMemory>
 pub fn report_run<K: Sink>(alloc: Global, text: &[u8], out: &mut K, journal: &mut Journal) -> Status
     requires short { length text.now ≤ 2 ^ 26 }
     requires empty { journal.old.items ≡ [] }
-    ensures recorded { IsTextRecorded (IsReportText text_of) text.now
+    ensures recorded { IsTextRecorded IsSimulated (IsReportText text_of) text.now
         (K.written out.old) (K.written out.new) journal.new.items result }
     ensures unwritten { is_unwritten result ≡ true → out.new ≡ out.old }
     ensures sink { BlamesLast (result ≡ Status.WriteFault)

@@ -61,7 +61,8 @@ pub fn run_of(alloc: Global, load: &Workload) -> Result<Simulated, NoMemory>
 /// Simulates the workload that the text says, or tells why it could not.
 pub fn simulated(alloc: Global, text: &[u8]) -> Result<Simulation, Unsimulated>
     requires { length text.now ≤ 2 ^ 26 }
-    ensures run { IfOk result (λ s. IsRun (IsWorkload text.now) s.load s.run.journal.items) }
+    ensures run { IfOk result (λ s.
+        IsRun (IsWorkload text.now) IsSimulated s.load s.run.journal.items) }
     ensures sent { IfOk result (λ s. s.run.bytes.items ≡ stream_of s.load s.run.journal.items) }
     ensures short { IfOk result (λ s. length s.run.bytes.items ≤ 2 ^ 33) }
     ensures ends { IfOk result (λ s. (packets : List Packet) → (end : End) →

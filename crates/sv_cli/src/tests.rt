@@ -1,8 +1,13 @@
 use super::*;
 use std::alloc::Global;
+use std::sync::Wait;
 use std::test::*;
-use sv_base::{MemSink, MemSource};
+use std::thread::Threads;
+use sv_base::{MemSink, MemSource, OpenGate};
 use sv_journal::{Item, Journal, Kind, Origin, Outcome};
+use sv_ring::{Dock, LogDock};
+use sv_ring_rtrb::RtrbDock;
+use sv_ring_rtt::RttDock;
 
 /// What a run answered, what its two sinks have, and its journal.
 #[derive(Drop)]
@@ -169,7 +174,7 @@ fn is_usage(alloc: Global, words: &[&str]) -> Result<bool, Fail> {
     Ok(
         run.status == Status::Usage
             && run.err.bytes()
-                == b"usage: sysview events F | check F | timeline F | report F | live N F | simulate W | record W | generate N\n".as_slice(),
+                == b"usage: sysview events F | check F | timeline F | report F | live N F | simulate W | record W | run W | generate N\n".as_slice(),
     )
 }
 
@@ -290,5 +295,134 @@ fn recordings_on_devices_that_fail(rt: HostRuntime) -> Result<(), Fail> {
         assert_eq!(rt; run.err.bytes(), "write fault\n".as_bytes());
         assert_eq!(rt; run.journal.items().len(), 6);
     }
+    Ok(())
+}
+
+/// Runs a workload of this text in threads.
+fn run_in_threads<R: Threads + Wait + Sync, D: Dock>(
+    rt: &R,
+    alloc: Global,
+    text: &[u8],
+    dock: &mut D,
+) -> Result<Answered, Fail> {
+    let mut files = Vec::new(alloc);
+    files.push((String::from_str(alloc, "f")?, text.to_vec(alloc)?))?;
+    let mut src = MemSource::new(files, Vec::new(alloc));
+    let mut out = sink(alloc, &[])?;
+    let mut err = sink(alloc, &[])?;
+    let mut journal = Journal::new(alloc);
+    let status = sysview(
+        rt,
+        alloc,
+        &["run", "f"],
+        &mut src,
+        &mut out,
+        &mut err,
+        dock,
+        &OpenGate,
+        &mut journal,
+    );
+    Ok(Answered {
+        status,
+        out,
+        err,
+        journal,
+    })
+}
+
+/// Ten steps of a task, an interrupt within it, and another task.
+const TEN: &[u8] = b"10 ready 536870916\n10 run 536870916\n10 isr 5\n10 mark 7\n10 isr-exit\n\
+10 idle\n10 ready 536870932\n10 run 536870932\n10 mark 8\n10 idle\n";
+
+/// A ring of 1024 bytes, a line and five tasks that a start describes, and four writers of a
+/// thousand steps, before which the first one starts the recorder.
+fn four_writers(alloc: Global) -> Result<Vec<u8>, Fail> {
+    let mut text = b"ring 1024\ndesc N=Pump\n".to_vec(alloc)?;
+    for id in [
+        "536870916",
+        "536870920",
+        "536870924",
+        "536870928",
+        "536870932",
+    ] {
+        text.extend_from_slice(b"task ")?;
+        text.extend_from_slice(id.as_bytes())?;
+        text.extend_from_slice(b" 1 536875008 1024 0 T\n")?;
+    }
+    for start in ["0 start\n", "", "", ""] {
+        text.extend_from_slice(b"writer\n")?;
+        text.extend_from_slice(start.as_bytes())?;
+        for _ in 0..100 {
+            text.extend_from_slice(TEN)?;
+        }
+    }
+    Ok(text)
+}
+
+/// Whether the overflows that are stored, and the packets refused since the last of them, make up
+/// all packets of calls and answers that are refused.
+fn counts_all(items: &[Item]) -> bool {
+    let mut refused = 0u64;
+    let mut counted = 0u64;
+    let mut pending = 0u64;
+    for item in items {
+        match (item.origin, item.outcome) {
+            (Origin::Overflow { count }, Outcome::Stored) => {
+                counted = counted.saturating_add(u64::from(count));
+                pending = 0;
+            }
+            (Origin::Call { .. } | Origin::Reply { .. }, Outcome::Refused) => {
+                refused = refused.saturating_add(1);
+                pending = pending.saturating_add(1);
+            }
+            _ => {}
+        }
+    }
+    counted.saturating_add(pending) == refused
+}
+
+#[test]
+fn four_writers_in_threads(rt: HostRuntime) -> Result<(), Fail> {
+    let text = four_writers(rt.alloc())?;
+    let run = run_in_threads(&rt, rt.alloc(), &text, &mut RttDock::new())?;
+    assert_eq!(rt; run.status, Status::Done);
+    let items = run.journal.items();
+    let calls = items
+        .iter()
+        .filter(|item| matches!(item.origin, Origin::Call { .. }))
+        .count();
+    assert_eq!(rt; calls, 4001);
+    assert!(rt; counts_all(items));
+    Ok(())
+}
+
+/// A ring of 64 bytes that a start and nine of thirteen marks fill.
+const LOST: &[u8] = b"ring 64\nwriter\n0 start\n1 mark 5\n1 mark 5\n1 mark 5\n1 mark 5\n1 mark 5\n\
+1 mark 5\n1 mark 5\n1 mark 5\n1 mark 5\n1 mark 5\n1 mark 5\n1 mark 5\n1 mark 5\nschedule\n\
+step 0 13\nread 20\nstep 0\n";
+
+/// Whether what is sent in a run is what is taken, and the lost packets are counted.
+fn sends_what_is_taken<R: Threads + Wait + Sync, D: Dock + Drop>(
+    rt: &R,
+    alloc: Global,
+    inner: D,
+) -> Result<bool, Fail> {
+    let mut dock = LogDock::new(alloc, inner);
+    let run = run_in_threads(rt, alloc, LOST, &mut dock)?;
+    let is_counted = run.status == Status::Done && counts_all(run.journal.items());
+    match dock.story() {
+        Some(story) => Ok(
+            is_counted
+                && story.sent.bytes().len() >= 34
+                && story.sent.bytes() == story.taken.bytes(),
+        ),
+        None => Ok(false),
+    }
+}
+
+#[test]
+fn runs_over_docks_that_keep_what_goes_through(rt: HostRuntime) -> Result<(), Fail> {
+    assert!(rt; sends_what_is_taken(&rt, rt.alloc(), RttDock::new())?);
+    assert!(rt; sends_what_is_taken(&rt, rt.alloc(), RtrbDock::new())?);
     Ok(())
 }

@@ -5,9 +5,10 @@ use std::alloc::{AllocError, Global};
 use std::env;
 use std::io::ErrorKind;
 use std::process::ExitCode;
-use sv_base::{FileSource, OutSink, Stream};
-use sv_cli::{Status, offline, say};
+use sv_base::{FileSource, OpenGate, OutSink, Stream};
+use sv_cli::{Status, say, sysview};
 use sv_journal::Journal;
+use sv_ring_rtt::RttDock;
 
 /// The texts as words.
 fn words(alloc: Global, texts: &[String]) -> Result<Vec<&str>, AllocError> {
@@ -51,8 +52,19 @@ fn run(rt: HostRuntime) -> Status {
     };
     let mut src = FileSource::new(rt);
     let mut out = OutSink::new(rt, Stream::Out);
+    let mut dock = RttDock::new();
     let mut journal = Journal::new(alloc);
-    offline(alloc, &words, &mut src, &mut out, &mut err, &mut journal)
+    sysview(
+        &rt,
+        alloc,
+        &words,
+        &mut src,
+        &mut out,
+        &mut err,
+        &mut dock,
+        &OpenGate,
+        &mut journal,
+    )
 }
 
 fn main(rt: HostRuntime) -> ExitCode {

@@ -1,6 +1,7 @@
 //! The command `record`: the recording that a workload gives.
 ghost use Rattle.std.specs.Prelude.{◌≡◌, ◌≢◌, [], true};
 ghost use Rattle.sv_base.specs.Causes.{Blames, BlamesLast, one_more};
+ghost use Rattle.sv_core.specs.Simulated.{IsSimulated};
 ghost use Rattle.sv_cli.specs.Devices.{OfFile};
 ghost use Rattle.sv_cli.specs.Recorded.{is_unwritten, IsRecorded, IsRecordingText};
 
@@ -22,7 +23,7 @@ pub fn record<S: Source, K: Sink>(
 ) -> Status
     requires { journal.old.items ≡ [] }
     ensures answered { OfFile (S.held src.old name.now) (S.left src.new) (λ file taken.
-        IsRecorded IsRecordingText file taken (K.written out.old) (K.written out.new)
+        IsRecorded IsSimulated IsRecordingText file taken (K.written out.old) (K.written out.new)
         journal.new.items result) }
     ensures unwritten { is_unwritten result ≡ true → out.new ≡ out.old }
     ensures begins { S.begins src.new ≡ one_more (S.begins src.old) }

@@ -8,7 +8,7 @@ returns-in_default-put_all-clause-answered g c = record {
   load = c.in-Ok.load;
   run = record {
     said = c.in-Ok.ensures.load;
-    simulated = c.in-Ok-run_of.ensures.simulated;
+    happened = c.in-Ok-run_of.ensures.simulated;
     names = c.in-Ok-run_of.ensures.names;
   };
   made = c.as_slice-2.result.now;
@@ -26,7 +26,7 @@ returns-clause-answered g c = record {
   load = c.in-Ok.load;
   run = record {
     said = c.in-Ok.ensures.load;
-    simulated = c.in-Ok-run_of.ensures.simulated;
+    happened = c.in-Ok-run_of.ensures.simulated;
     names = c.in-Ok-run_of.ensures.names;
   };
   start = always_started c.args.number c.in-Ok.load c.in-Ok-run_of.run'.journal.items

@@ -2,6 +2,7 @@ ghost use Rattle.std.specs.Prelude.{◌≡◌, ◌+◌, ◌^◌, ◌<◌, ◌≤
 
 use super::*;
 use std::alloc::Global;
+use std::process::Abort;
 use std::sync::Wait;
 use std::test::*;
 use std::thread;
@@ -42,6 +43,28 @@ fn store<U: UpWriter>(up: &mut U, block: &[u8], stored: &mut u64) -> Option<Wrot
     Some(wrote)
 }
 
+/// The byte at this place of a pattern that does not come round with the cells.
+fn byte_at(place: u64) -> u8 {
+    (place % 251) as u8
+}
+
+/// The bytes of the pattern from this place on.
+fn fill_from(block: &mut [u8], place: u64)
+    ensures { length block.new ≡ length block.old }
+{
+    for index in 0..block.len() {
+        block[index] = byte_at(place.wrapping_add(index as u64));
+    }
+}
+
+fn are_from(block: &[u8], place: u64) -> bool {
+    let mut good = true;
+    for index in 0..block.len() {
+        good = good && block[index] == byte_at(place.wrapping_add(index as u64));
+    }
+    good
+}
+
 /// Reads until a read gives nothing.
 fn read_all(rt: &impl Wait, host: &mut RttHost, all: &mut Vec<u8>) -> Result<(), Fail>
     ensures { host.new.name ≡ host.old.name }
@@ -57,6 +80,56 @@ fn read_all(rt: &impl Wait, host: &mut RttHost, all: &mut Vec<u8>) -> Result<(),
     Ok(())
 }
 
+/// Takes the ends back, and gives the bytes that are left in the up ring.
+fn settled(alloc: Global, ends: RttEnds) -> Result<Vec<u8>, Fail>
+    requires up { ends.up.name ≡ ends.host.name }
+    requires down { ends.down.name ≡ ends.target.name }
+{
+    match RttDock::new().settle(alloc, ends) {
+        Ok(rest) => Ok(rest),
+        Err(_) => Err(Fail::from("no memory")),
+    }
+}
+
+/// Fills an empty ring of 64 bytes with all bytes of a block of 64 but the last.
+fn fill_ring(rt: &impl Abort, up: &mut RttUp, block: &[u8], stored: &mut u64)
+    requires { stored.old ≡ length up.old.writing.sent }
+    ensures stored { stored.new ≡ length up.new.writing.sent }
+    ensures name { up.new.name ≡ up.old.name }
+{
+    assert_eq!(rt; store(up, block, stored), Some(Wrote::Refused { room: 63 }));
+    let shorter = &block[..block.len().min(63)];
+    assert_eq!(rt; store(up, shorter, stored), Some(Wrote::Stored));
+    assert_eq!(rt; store(up, &[99], stored), Some(Wrote::Refused { room: 0 }));
+}
+
+/// Takes ten bytes from a full ring of 64, and stores ten more, across the end of its cells.
+fn go_round(rt: &impl Abort, up: &mut RttUp, host: &mut RttHost, stored: &mut u64) -> [u8; 10]
+    requires { stored.old ≡ length up.old.writing.sent }
+    ensures up { up.new.name ≡ up.old.name }
+    ensures host { host.new.name ≡ host.old.name }
+{
+    let mut ten = [0; 10];
+    assert_eq!(rt; host.read(&mut ten), 10);
+    let mut more = [0; 10];
+    fill_from(&mut more, 63);
+    assert_eq!(rt; up.freed(), 0);
+    assert_eq!(rt; store(up, &more, stored), Some(Wrote::Stored));
+    assert_eq!(rt; up.freed(), 10);
+    ten
+}
+
+/// Sends the command 7, and takes it.
+fn ask(rt: &impl Abort, down: &mut RttDown, target: &mut RttTarget)
+    requires { down.old.writing.sent ≡ [] }
+    ensures down { down.new.name ≡ down.old.name }
+    ensures target { target.new.name ≡ target.old.name }
+{
+    down.send(&[7]);
+    assert_eq!(rt; target.next(), Some(7));
+    assert_eq!(rt; target.next(), None);
+}
+
 #[test]
 fn a_ring_of_64_bytes_in_one_thread(rt: HostRuntime) -> Result<(), Fail> {
     let alloc = rt.alloc();
@@ -66,48 +139,23 @@ fn a_ring_of_64_bytes_in_one_thread(rt: HostRuntime) -> Result<(), Fail> {
         mut down,
         mut target,
     } = rings(alloc, 64, 1_000)?;
-    let mut block = Vec::new(alloc);
-    for byte in 0..64u8 {
-        block.push(byte)?;
-    }
     let mut stored = 0;
-    assert_eq!(rt;
-        store(&mut up, &block, &mut stored),
-        Some(Wrote::Refused { room: 63 })
-    );
-    block.truncate(63);
-    assert_eq!(rt; store(&mut up, &block, &mut stored), Some(Wrote::Stored));
-    assert_eq!(rt;
-        store(&mut up, &[99], &mut stored),
-        Some(Wrote::Refused { room: 0 })
-    );
-    let mut ten = [0; 10];
-    assert_eq!(rt; host.read(&mut ten), 10);
-
-    // Across the end of the cells.
-    let more = [100, 101, 102, 103, 104, 105, 106, 107, 108, 109];
-    assert_eq!(rt; up.freed(), 0);
-    assert_eq!(rt; store(&mut up, &more, &mut stored), Some(Wrote::Stored));
-    assert_eq!(rt; up.freed(), 10);
-    block.extend_from_slice(&more)?;
+    let mut block = [0; 64];
+    fill_from(&mut block, 0);
+    fill_ring(&rt, &mut up, &block, &mut stored);
     let mut all = Vec::new(alloc);
-    all.extend_from_slice(&ten)?;
+    all.extend_from_slice(&go_round(&rt, &mut up, &mut host, &mut stored))?;
     read_all(&rt, &mut host, &mut all)?;
-    assert_eq!(rt; all.as_slice(), block.as_slice());
-
-    down.send(&[7]);
-    assert_eq!(rt; target.next(), Some(7));
-    assert_eq!(rt; target.next(), None);
+    assert_eq!(rt; all.len(), 73);
+    assert!(rt; are_from(&all, 0));
+    ask(&rt, &mut down, &mut target);
     let ends = Ends {
         up,
         host,
         down,
         target,
     };
-    let Ok(rest) = RttDock::new().settle(alloc, ends) else {
-        return Err(Fail::from("no memory"));
-    };
-    assert!(rt; rest.is_empty());
+    assert!(rt; settled(alloc, ends)?.is_empty());
     Ok(())
 }
 
@@ -188,33 +236,8 @@ fn what_is_left_is_settled(rt: HostRuntime) -> Result<(), Fail> {
         down,
         target,
     };
-    let Ok(rest) = RttDock::new().settle(alloc, ends) else {
-        return Err(Fail::from("no memory"));
-    };
-    assert_eq!(rt; rest.as_slice(), [11, 12].as_slice());
+    assert_eq!(rt; settled(alloc, ends)?.as_slice(), [11, 12].as_slice());
     Ok(())
-}
-
-/// The byte at this place of a pattern that does not come round with the cells.
-fn byte_at(place: u64) -> u8 {
-    (place % 251) as u8
-}
-
-/// The bytes of the pattern from this place on.
-fn fill_from(block: &mut [u8], place: u64)
-    ensures { length block.new ≡ length block.old }
-{
-    for index in 0..block.len() {
-        block[index] = byte_at(place.wrapping_add(index as u64));
-    }
-}
-
-fn are_from(block: &[u8], place: u64) -> bool {
-    let mut good = true;
-    for index in 0..block.len() {
-        good = good && block[index] == byte_at(place.wrapping_add(index as u64));
-    }
-    good
 }
 
 /// Writes so many bytes of the pattern, in blocks of 1 to 63, each again until it is stored.
@@ -281,9 +304,6 @@ fn a_million_bytes_between_two_threads(rt: HostRuntime) -> Result<(), Fail> {
         down,
         target,
     };
-    let Ok(rest) = RttDock::new().settle(alloc, ends) else {
-        return Err(Fail::from("no memory"));
-    };
-    assert!(rt; rest.is_empty());
+    assert!(rt; settled(alloc, ends)?.is_empty());
     Ok(())
 }

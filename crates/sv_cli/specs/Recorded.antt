@@ -46,10 +46,11 @@ pub record IsRun (says : Load → Type 0) (happens : Load → List Item → Type
   pub names : TellsTruly load items
 
 -- the journal is one of a run in threads, of which the dock tells where it tells its stories
-pub record HasRun (before now : Option (List Story)) (load : Load) (items : List Item) : Type 0 where
-  pub legal : IsLegal load items
-  pub whole : IsWhole load items
-  pub story : HasStory load items before now
+pub record HasRun (before now : Option (List Story)) (load : Load) (items : List Item) : Type 0
+  where
+    pub legal : IsLegal load items
+    pub whole : IsWhole load items
+    pub story : HasStory load items before now
 
 -- what `record` writes of a journal
 abbrev pub IsRecordingText : Load → List Item → List ℕ → Type 0
@@ -81,13 +82,13 @@ pub record IsRecording (runs : Load → List Item → Type 0)
 
 -- a part of it is written
 pub record IsRecordingPart (runs : Load → List Item → Type 0)
-    (makes : Load → List Item → List ℕ → Type 0) (old new : Option (List ℕ)) (items : List Item) : Type 0
-  where
-    pub load : Load
-    pub run : runs load items
-    pub made : List ℕ
-    pub makes_it : makes load items made
-    pub part : AppendsPart old new made
+    (makes : Load → List Item → List ℕ → Type 0) (old new : Option (List ℕ))
+    (items : List Item) : Type 0 where
+  pub load : Load
+  pub run : runs load items
+  pub made : List ℕ
+  pub makes_it : makes load items made
+  pub part : AppendsPart old new made
 
 -- nothing is written, and there is no journal
 abbrev pub IsNothing : Option (List ℕ) → Option (List ℕ) → List Item → Type 0

@@ -26,8 +26,8 @@ abbrev pub IsRequest : List (Bor (List ℕ)) → Request → Type 0
 IsRequest words (offline command) = IsCommand words command
 IsRequest words (run name) = AsksForRun words name
 
--- what is written, what the dock tells, the journal, and the status: those of a command, or of a run
--- in threads, which is over the bytes that were taken of the workload's file
+-- what is written, what the dock tells, the journal, and the status: those of a command, or of a
+-- run in threads, which is over the bytes that were taken of the workload's file
 abbrev pub Answers : (List ℕ → Option (List ℕ)) → Option (List ℕ) → Request
     → Option (List ℕ) → Option (List ℕ) → Option (List Story) → Option (List Story)
     → List Item → Status → Type 0

@@ -6,7 +6,8 @@ ghost use Rattle.sv_cli.specs.ErrorLine.{usage_line};
 
 use itoa::Buffer;
 
-/// What the words of a command line ask for, with the name of the file that it reads, or its number.
+/// What the words of a command line ask for, with the name of the file that it reads, or its
+/// number.
 #[derive(Clone, Copy, Debug, PartialEq, Eq)]
 pub enum Command<'a> {
     /// `events F`: a line for each event of the recording F, and the end line.

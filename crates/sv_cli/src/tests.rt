@@ -174,7 +174,9 @@ fn is_usage(alloc: Global, words: &[&str]) -> Result<bool, Fail> {
     Ok(
         run.status == Status::Usage
             && run.err.bytes()
-                == b"usage: sysview events F | check F | timeline F | report F | live N F | simulate W | record W | run W | generate N\n".as_slice(),
+                == b"usage: sysview events F | check F | timeline F | report F | live N F | \
+simulate W | record W | run W | generate N\n"
+                    .as_slice(),
     )
 }
 
@@ -384,7 +386,8 @@ fn counts_all(items: &[Item]) -> bool {
 #[test]
 fn four_writers_in_threads(rt: HostRuntime) -> Result<(), Fail> {
     let text = four_writers(rt.alloc())?;
-    let run = run_in_threads(&rt, rt.alloc(), &text, &mut RttDock::new())?;
+    let mut dock = LogDock::new(rt.alloc(), RttDock::new());
+    let run = run_in_threads(&rt, rt.alloc(), &text, &mut dock)?;
     assert_eq!(rt; run.status, Status::Done);
     let items = run.journal.items();
     let calls = items

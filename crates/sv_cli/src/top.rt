@@ -75,8 +75,8 @@ fn answer<S: Source, K: Sink>(
 /// `simulate W` and `record W` read the workload W, of at most 2^26 bytes, and simulate it.
 /// `simulate` writes the report of the bytes that were sent, and `record` a line and these bytes;
 /// `journal` is then that of the run. `generate N` reads no file: it simulates the workload of the
-/// number N, from 1 to 1000000, and writes the counts of the bytes that were sent, and the end line;
-/// `journal` is that of the run. A status other than Done is told to `err`, in one line; what
+/// number N, from 1 to 1000000, and writes the counts of the bytes that were sent, and the end
+/// line; `journal` is that of the run. A status other than Done is told to `err`, in one line; what
 /// `err` does with it changes nothing.
 pub fn offline<S: Source, K: Sink>(
     alloc: Global,
@@ -142,9 +142,9 @@ fn run_asked<'a>(words: &[&'a str]) -> Option<&'a str>
 /// `run W` reads the workload W, of at most 2^26 bytes, from `src`, and runs it over rings of
 /// `dock`: a thread for each writer takes the steps of its script, and the calling thread is the
 /// host. It writes the report of the bytes that the host has taken to `out`; `journal` is then that
-/// of the run, and `dock` has its story, where it tells stories. The order in which the threads go
-/// on is theirs, and with it the report; whatever it is, the contract holds. A test may hold them by
-/// `gate`. After NoMemory nothing is written, and the journal is empty.
+/// of the run, and `dock` has its story, where it tells stories. In which order the threads go on
+/// is open, and with it the report; the contract holds of each. A test may hold them by `gate`.
+/// After NoMemory nothing is written, and the journal is empty.
 ///
 /// May wait for its threads. With all other words it does what [`offline`] does, and leaves `dock`
 /// as it was.

@@ -1,4 +1,4 @@
-//! The command `run`: the report of the recording that a workload gives whose writers run in threads.
+//! The command `run`: the report of the recording that a workload gives whose writers are threads.
 ghost use Rattle.std.specs.Prelude.{◌≡◌, ◌≢◌, [], true};
 ghost use Rattle.sv_base.specs.Causes.{Blames, BlamesLast, one_more};
 ghost use Rattle.sv_report.specs.ReportText.{text_of};

@@ -24,8 +24,8 @@ pub fn simulate<S: Source, K: Sink>(
 ) -> Status
     requires { journal.old.items ≡ [] }
     ensures answered { OfFile (S.held src.old name.now) (S.left src.new) (λ file taken.
-        IsRecorded IsSimulated (IsReportText text_of) file taken (K.written out.old) (K.written out.new)
-        journal.new.items result) }
+        IsRecorded IsSimulated (IsReportText text_of) file taken
+        (K.written out.old) (K.written out.new) journal.new.items result) }
     ensures unwritten { is_unwritten result ≡ true → out.new ≡ out.old }
     ensures begins { S.begins src.new ≡ one_more (S.begins src.old) }
     ensures sure { S.sure src.old name.now → result ≢ Status.ReadFault }

@@ -36,25 +36,25 @@ fn texts(rt: HostRuntime) -> Result<Vec<String>, Status> {
     Ok(texts)
 }
 
-fn run(rt: HostRuntime) -> Status {
+fn main(rt: HostRuntime) -> ExitCode {
     let alloc = rt.alloc();
     let mut err = OutSink::new(rt, Stream::Err);
     let texts = match texts(rt) {
         Ok(texts) => texts,
         Err(status) => {
             say(&mut err, &status);
-            return status;
+            return ExitCode::from(status.code());
         }
     };
     let Ok(words) = words(alloc, &texts) else {
         say(&mut err, &Status::NoMemory);
-        return Status::NoMemory;
+        return ExitCode::from(Status::NoMemory.code());
     };
     let mut src = FileSource::new(rt);
     let mut out = OutSink::new(rt, Stream::Out);
     let mut dock = RttDock::new();
     let mut journal = Journal::new(alloc);
-    sysview(
+    let status = sysview(
         &rt,
         alloc,
         &words,
@@ -64,9 +64,6 @@ fn run(rt: HostRuntime) -> Status {
         &mut dock,
         &OpenGate,
         &mut journal,
-    )
-}
-
-fn main(rt: HostRuntime) -> ExitCode {
-    ExitCode::from(run(rt).code())
+    );
+    ExitCode::from(status.code())
 }

@@ -10,9 +10,6 @@ TOP = os.path.dirname(os.path.dirname(os.path.abspath(__file__)))
 REASONS = [
     "", "UnknownWord", "Shape", "Number", "Repeated", "TooMany", "Unaligned", "Misplaced",
     "BadText", "NoSuchWriter", "ModuleFull"]
-# With this code builds answered workloads of several writers, tasks, a schedule or a small ring, as
-# long as they did not take them.
-UNTAKEN = 11
 
 
 def answer(program, *words):
@@ -20,10 +17,9 @@ def answer(program, *words):
     return run.returncode, run.stdout, run.stderr
 
 
-def pieces(program, command, path):
+def pieces(program, *words):
     """The output in pieces of a MiB, then the exit code and the errors, as where() wants them."""
-    words = [program, command, path]
-    with subprocess.Popen(words, stdout=subprocess.PIPE, stderr=subprocess.PIPE) as run:
+    with subprocess.Popen([program, *words], stdout=subprocess.PIPE, stderr=subprocess.PIPE) as run:
         while piece := run.stdout.read(2**20):
             yield 0, piece, b""
         yield run.wait(), b"", run.stderr.read()
@@ -46,14 +42,13 @@ class Tally:
 
     def __init__(self, kept):
         self.kept = kept
-        self.alike = self.untaken = 0
+        self.alike = 0
         self.differ = []
         self.codes = collections.Counter()
         self.reasons = collections.Counter()
 
     def add(self, other):
         self.alike += other.alike
-        self.untaken += other.untaken
         self.differ += other.differ
         self.codes += other.codes
         self.reasons += other.reasons
@@ -62,21 +57,20 @@ class Tally:
         """Runs the programs, each of which must answer as the first one. Gives its answer."""
         old, *others = (answer(program, *words) for program in programs)
         differs = next(filter(None, (where(old, new) for new in others)), None)
-        if old[0] == UNTAKEN:
-            self.untaken += 1
-        elif differs:
+        if differs:
             self.differ.append(f"{words[0] if words else 'no words'}, {name}: {differs}")
-            if len(words) == 2 and os.path.isfile(words[1]) and len(os.listdir(self.kept)) < 20:
+            if words and os.path.isfile(words[-1]) and len(os.listdir(self.kept)) < 20:
                 to = name.replace(" ", "-").replace("/", "-")
-                shutil.copy(words[1], os.path.join(self.kept, to))
+                shutil.copy(words[-1], os.path.join(self.kept, to))
         else:
             self.alike += 1
         self.codes[words[0] if words else "", old[0]] += 1
         return old
 
-    def large(self, programs, name, command, path):
+    def large(self, programs, name, *words):
         """The same where the output is too long to be held."""
-        both = [pieces(program, command, path) for program in programs]
+        command = words[0]
+        both = [pieces(program, *words) for program in programs]
         for at, (old, new) in enumerate(itertools.zip_longest(*both, fillvalue=(None, b"", b""))):
             differs = where(old, new)
             if differs:
@@ -97,8 +91,6 @@ class Tally:
         share = 100 * (total - sum(self.reasons.values())) // max(total, 1)
         named = ", ".join(f"{REASONS[reason]} {n}" for reason, n in sorted(self.reasons.items()))
         print(f"record: {share} of 100 workloads have no fault; of the others {named}")
-        if self.untaken:
-            print(f"record: {self.untaken} workloads are not taken by the first program")
         for line in self.differ[:20]:
             print("differs: " + line)
         if self.differ:

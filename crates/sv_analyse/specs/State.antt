@@ -54,21 +54,24 @@ pub record StandsFor (state : State) (input : List ℕ) (given : List Span) : Ty
   pub analysis : AnalysisStandsFor state.analysis events given
   pub all : (packets : List Packet) (end : End) → Reads input packets end → events ≡ timed packets
 
--- the decoder and the analysis are as far as each other
+-- the analysis has not failed, and stands for these events
+abbrev pub HasTaken : AnalysisState → List TimedEvent → Type 0
+HasTaken analysis events =
+    (analysis.failed ≡ false) × (given : List Span) × AnalysisStandsFor analysis events given
+
+-- the analysis stands for the events that the decoder has given, each of two bytes at least
 pub record AreAbreast (decoder : Decoding) (analysis : AnalysisState) : Type 0 where
-  pub time : analysis.timeline.last ≡ decoder.time
-  pub few : 2 * analysis.packets + length decoder.held ≤ pushed decoder
+  pub input : List ℕ
+  pub events : List TimedEvent
+  pub given : List Span
+  pub decodes : DecoderStandsFor decoder input events
+  pub analyses : AnalysisStandsFor analysis events given
+  pub few : 2 * length events + length decoder.held ≤ pushed decoder
 
 -- what an analyser keeps as long as memory was never wanting
 abbrev pub IsAbreast : Decoding → AnalysisState → Type 0
 IsAbreast decoder analysis = analysis.failed ≡ false → IsSettled decoder
     × AreAbreast decoder analysis
-
--- the decoder has given all events of its input
-abbrev pub AreAll : Decoding → Type 0
-AreAll decoder =
-    (input : List ℕ) (events : List TimedEvent) → DecoderStandsFor decoder input events →
-    (packets : List Packet) (end : End) → Reads input packets end → events ≡ timed packets
 
 -- the first of the runs that have ended in the input were added, after those that were given before
 abbrev pub HasAdded : List ℕ → List Span → List Span → List Span → Type 0

@@ -2,23 +2,23 @@
 ghost use Rattle.std.specs.Prelude.{◌≡◌, ℕ, ◌+◌, ◌^◌, ◌≤◌, ◌++◌, List, [], false, true, ◌↔◌};
 ghost use Rattle.std.specs.Prelude.{IsNone, IsOk, IfOk, OnOk, OnErr, length, option_to_list};
 ghost use Rattle.sv_packet.specs.declared.event.Packet.{Packet};
-ghost use Rattle.sv_packet.specs.declared.event.TimedEvent.{TimedEvent as Timed};
 ghost use Rattle.sv_packet.specs.Time.{timed};
 ghost use Rattle.sv_packet.specs.Events.{last_time};
 ghost use Rattle.sv_stream.specs.declared.end.End.{End as HowItEnds};
 ghost use Rattle.sv_stream.specs.Reads.{Reads};
-ghost use Rattle.sv_stream.specs.Decoding.{pushed, IsSettled, StandsFor as DecoderStandsFor};
+ghost use Rattle.sv_stream.specs.Decoding.{pushed};
 ghost use Rattle.sv_timeline.specs.declared.span.Span.{Span as Run};
 ghost use Rattle.sv_timeline.specs.Timeline.{IsTimeline};
 ghost use Rattle.sv_analyse.specs.Report.{report_of};
-ghost use Rattle.sv_analyse.specs.State.{StandsFor, AnalysisStandsFor, AreAbreast, AreAll, HasAdded};
+ghost use Rattle.sv_analyse.specs.State.{StandsFor, HasAdded};
 
 use crate::analysis::Analysis;
 use crate::report::Report;
 use std::alloc::Global;
 use std::marker::Model;
+use sv_feed::drain_events;
 use sv_prim::NoMemory;
-use sv_stream::{Decoder, End, StreamFault};
+use sv_stream::{Decoder, End};
 use sv_timeline::Span;
 
 /// Analyses a recording that comes in pieces.
@@ -42,44 +42,6 @@ impl Model for Analyser {
     } };
 
     ghost invariant = { λ a. IsAbreast a.decoder a.analysis };
-}
-
-/// Analyses the events that are whole in what was pushed.
-fn drain(
-    decoder: &mut Decoder,
-    analysis: &mut Analysis,
-    spans: &mut Vec<Span>,
-) -> Result<(), NoMemory>
-    requires live { analysis.old.failed ≡ false }
-    requires abreast { AreAbreast decoder.old analysis.old }
-    requires within { pushed decoder.old ≤ 2 ^ 33 }
-    ensures stands { OnOk result ((input : List ℕ) (events : List Timed) (given : List Run) →
-        DecoderStandsFor decoder.old input events → AnalysisStandsFor analysis.old events given →
-        (more : List Run) × (further : List Timed) × (spans.new.items ≡ spans.old.items ++ more)
-        × DecoderStandsFor decoder.new input further
-        × AnalysisStandsFor analysis.new further (given ++ more)) }
-    ensures all { OnOk result (AreAll decoder.new) }
-    ensures settled { OnOk result (IsSettled decoder.new) }
-    ensures live { OnOk result (analysis.new.failed ≡ false) }
-    ensures abreast { OnOk result (AreAbreast decoder.new analysis.new) }
-    ensures pushed { pushed decoder.new ≡ pushed decoder.old }
-    ensures failed { OnErr result (analysis.new.failed ≡ true) }
-    ensures part { OnErr result ((input : List ℕ) (events : List Timed) (given : List Run) →
-        DecoderStandsFor decoder.old input events → AnalysisStandsFor analysis.old events given →
-        HasAdded input given spans.old.items spans.new.items) }
-{
-    loop {
-        let Some(front) = decoder.front() else {
-            return match decoder.settle() {
-                Ok(()) => Ok(()),
-                Err(StreamFault::Damaged { .. }) => Ok(()),
-                Err(StreamFault::NoMemory) => unreachable!(),
-            };
-        };
-        analysis.note(front.time, &front.event, spans)?;
-        let (used, time) = (front.used, front.time);
-        decoder.pass(used, time);
-    }
 }
 
 impl Analyser {
@@ -123,7 +85,8 @@ impl Analyser {
             self.analysis.fail();
             return Err(NoMemory);
         };
-        drain(&mut self.decoder, &mut self.analysis, spans)
+        drain_events(&mut self.decoder, &mut self.analysis, spans)?;
+        Ok(())
     }
 
     /// How the input ends. No `feed` has answered NoMemory.

@@ -6,6 +6,7 @@ ghost use Rattle.sv_packet.specs.EventRef.{seen_at};
 ghost use Rattle.sv_packet.specs.Events.{last_time};
 ghost use Rattle.sv_timeline.specs.declared.span.Span.{Span as Run};
 ghost use Rattle.sv_timeline.specs.Timeline.{IsTimeline};
+ghost use Rattle.sv_timeline.specs.Runs.{ended_runs};
 ghost use Rattle.sv_timeline.specs.State.{ended_by};
 ghost use Rattle.sv_analyse.specs.Report.{report_from};
 ghost use Rattle.sv_analyse.specs.State.{AnalysisStandsFor};
@@ -17,6 +18,7 @@ use crate::names::Names;
 use crate::report::Report;
 use std::alloc::Global;
 use std::marker::Model;
+use sv_feed::Gather;
 use sv_latency::Latency;
 use sv_packet::EventRef;
 use sv_prim::NoMemory;
@@ -105,39 +107,6 @@ impl Analysis {
         Ok(run)
     }
 
-    /// The same, and adds the run to `spans`, which stay as they were after NoMemory.
-    #[inline(always)]
-    pub fn note(
-        &mut self,
-        time: u64,
-        event: &EventRef<'_>,
-        spans: &mut Vec<Span>,
-    ) -> Result<(), NoMemory>
-        requires live { self.old.failed ≡ false }
-        requires few { self.old.packets < 2 ^ 32 }
-        requires order { self.old.timeline.last ≤ time }
-        ensures stands { OnOk result ((events : List Timed) (given : List Run) →
-            AnalysisStandsFor self.old events given →
-            AnalysisStandsFor self.new (events ++ seen_at time event.now ∷ [])
-            (given ++ ended_by self.old.timeline (seen_at time event.now))) }
-        ensures spans { OnOk result (spans.new.items
-            ≡ spans.old.items ++ ended_by self.old.timeline (seen_at time event.now)) }
-        ensures kept { OnErr result (spans.new.items ≡ spans.old.items) }
-        ensures live { OnOk result (self.new.failed ≡ false) }
-        ensures packets { OnOk result (self.new.packets ≡ self.old.packets + 1) }
-        ensures last { OnOk result (self.new.timeline.last ≡ time) }
-        ensures failed { OnErr result (self.new.failed ≡ true) }
-    {
-        let Some(run) = self.step(time, event)? else {
-            return Ok(());
-        };
-        if spans.push(run).is_err() {
-            self.failed = true;
-            return Err(NoMemory);
-        }
-        Ok(())
-    }
-
     /// Memory was wanting once.
     pub fn has_failed(&self) -> bool
         ensures { result ≡ self.now.failed }
@@ -194,5 +163,34 @@ impl Analysis {
             tasks: Lines::new(tasks),
             end,
         })
+    }
+}
+
+impl Gather<Span> for Analysis {
+    ghost use Rattle.sv_analyse.specs.State.{HasTaken};
+
+    ghost made = { ended_runs };
+
+    ghost taken = { HasTaken };
+
+    ghost failed = { λ a before after. (a.failed ≡ true) × (after ≡ before) };
+
+    /// Adds the run that the event ends to `spans`, if it ends one. They stay as they were after
+    /// NoMemory.
+    #[inline(always)]
+    fn event(
+        &mut self,
+        time: u64,
+        event: &EventRef<'_>,
+        spans: &mut Vec<Span>,
+    ) -> Result<(), NoMemory> {
+        let Some(run) = self.step(time, event)? else {
+            return Ok(());
+        };
+        if spans.push(run).is_err() {
+            self.failed = true;
+            return Err(NoMemory);
+        }
+        Ok(())
     }
 }

@@ -2,7 +2,8 @@
 use Rattle.std.proofs.Common.{◌≡◌, ℕ, Bool, true, refl}
 use Rattle.std.proofs.lemmas.Bool.{false≢true}
 use Rattle.std.specs.Prelude.{Result, Ok, Err, IsErr}
-use Rattle.sv_base.specs.Causes.{Blames, BlamesLast, HasCause, Rose, one_more}
+use Rattle.sv_prim.specs.Counts.{Rose}
+use Rattle.sv_base.specs.Causes.{Blames, BlamesLast, HasCause, one_more}
 
 -- the device is blamed
 pub Blames-yes : (blamed : Type 0) (before now : ℕ) → blamed → Rose before now

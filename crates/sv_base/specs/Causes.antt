@@ -1,13 +1,10 @@
 -- Counts, and the faults that they count: a fault is answered only where its object's count rose.
 use Rattle.std.specs.Prelude.{◌≡◌, ℕ, ◌+◌, ◌-◌, ◌^◌, ◌≤◌, Bool, true, max, min, Result, OnOk, OnErr}
+use Rattle.sv_prim.specs.Counts.{Rose}
 
 -- one more, as far as a u64 goes: at its end a count stays
 abbrev pub one_more : ℕ → ℕ
 one_more n = max n (min (n + 1) (2 ^ 64 - 1))
-
--- greater than before, or at the end of its type
-abbrev pub Rose : ℕ → ℕ → Type 0
-Rose before now = min (before + 1) (2 ^ 64 - 1) ≤ now
 
 -- the count of an object over one call: it never falls, an error makes it rise, and an answer
 -- leaves it

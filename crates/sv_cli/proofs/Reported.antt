@@ -10,10 +10,10 @@ use Rattle.sv_stream.specs.Reads.{Reads}
 use Rattle.sv_stream.proofs.Shared.{reading}
 use Rattle.sv_analyse.specs.declared.report.Report.{Report}
 use Rattle.sv_analyse.specs.Report.{report_of}
-use Rattle.sv_workload.specs.Load.{Load}
+use Rattle.sv_load.specs.Load.{Load}
 use Rattle.sv_journal.specs.declared.journal.Item.{Item}
 use Rattle.sv_journal.specs.Stream.{stream_of}
-use Rattle.sv_core.specs.Start.{has_start}
+use Rattle.sv_sent.specs.Start.{has_start}
 use Rattle.sv_cli.specs.Recorded.{sent_end, IsReportText}
 
 report_made : (text : Report → List ℕ) (load : Load) (items : List Item) (bytes made : List ℕ)

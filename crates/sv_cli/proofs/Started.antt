@@ -6,7 +6,7 @@ use Rattle.std.specs.List.{list_any}
 use Rattle.std.proofs.Math.Dec.{eqb-suc-zero}
 use Rattle.std.proofs.lemmas.List.Sums.{sum_by-cons}
 use Rattle.std.proofs.lemmas.List.Sorted.{IsPermutation-reverse, list_any-IsPermutation}
-use Rattle.sv_workload.specs.Load.{Load}
+use Rattle.sv_load.specs.Load.{Load}
 use Rattle.sv_workload.specs.Generated.{generated_load}
 use Rattle.sv_journal.specs.declared.journal.Origin.{Origin}
 use Rattle.sv_journal.specs.declared.journal.Origin.TheVariants.{Call, Sync, Reply, Overflow}
@@ -14,7 +14,7 @@ use Rattle.sv_journal.specs.declared.journal.Origin.TheVariants.{Command}
 use Rattle.sv_journal.specs.declared.journal.Item.{Item}
 use Rattle.sv_journal.specs.Items.{is_call_of, is_start}
 use Rattle.sv_journal.specs.Legal.{EachItem, IsLegal, IsNextItem, IsNextStep, IsWhole}
-use Rattle.sv_core.specs.Start.{has_start}
+use Rattle.sv_sent.specs.Start.{has_start}
 
 or_true : (a b : Bool) → b ≡ true → (a || b) ≡ true
 or_true true b e = refl

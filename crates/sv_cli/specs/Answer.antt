@@ -10,7 +10,7 @@ use Rattle.sv_stream.specs.declared.end.End.{End}
 use Rattle.sv_stream.specs.declared.end.End.TheVariants as ends
 use Rattle.sv_stream.specs.Decoding.{IsDamaged}
 use Rattle.sv_stream.specs.Reads.{Reads}
-use Rattle.sv_report.specs.Ends.{number_of}
+use Rattle.sv_report.specs.Ends.{number_of_reason}
 use Rattle.sv_cli.specs.declared.status.Status.{Status}
 use Rattle.sv_cli.specs.declared.status.Status.TheVariants.{Done, ReadFault, WriteFault}
 use Rattle.sv_cli.specs.declared.status.Status.TheVariants.{Damaged, Truncated, NoSync}
@@ -72,7 +72,7 @@ abbrev pub IsAnswer : Text → List ℕ → List ℕ → Type 0 → Option (List
     → Type 0
 IsAnswer text taken front all old new Done = IsWhole text taken all ends.Clean old new
 IsAnswer text taken front all old new (Damaged place number) =
-    (reason : Reason) × (number ≡ number_of reason) × IsWhole text taken all
+    (reason : Reason) × (number ≡ number_of_reason reason) × IsWhole text taken all
     (ends.Damaged place reason) old new
 IsAnswer text taken front all old new (Truncated held) =
     IsWhole text taken all (ends.Truncated held) old new

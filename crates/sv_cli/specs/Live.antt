@@ -14,7 +14,7 @@ use Rattle.sv_stream.specs.Reads.{Reads}
 use Rattle.sv_timeline.specs.declared.span.Span.{Span}
 use Rattle.sv_analyse.specs.Report.{report_of}
 use Rattle.sv_analyse.specs.State.{StandsFor}
-use Rattle.sv_report.specs.Ends.{number_of}
+use Rattle.sv_report.specs.Ends.{number_of_reason}
 use Rattle.sv_report.specs.ReportText.{count_line, text_of}
 use Rattle.sv_cli.specs.declared.live.Live.{Live}
 use Rattle.sv_cli.specs.declared.scan.Cut.{Cut}
@@ -81,7 +81,7 @@ abbrev pub IsLiveAnswer : ℕ → List ℕ → List ℕ → ℕ → ℕ → Type
 IsLiveAnswer size taken front whole pieces all old new Done =
     IsTold size taken pieces all ends.Clean old new
 IsLiveAnswer size taken front whole pieces all old new (Damaged place number) =
-    (reason : Reason) × (number ≡ number_of reason)
+    (reason : Reason) × (number ≡ number_of_reason reason)
     × IsTold size taken pieces all (ends.Damaged place reason) old new
 IsLiveAnswer size taken front whole pieces all old new (Truncated held) =
     IsTold size taken pieces all (ends.Truncated held) old new

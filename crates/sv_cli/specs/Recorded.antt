@@ -12,14 +12,14 @@ use Rattle.sv_ring.specs.declared.story.Story.{Story}
 use Rattle.sv_analyse.specs.declared.report.Report.{Report}
 use Rattle.sv_analyse.specs.Report.{report_of}
 use Rattle.sv_report.specs.ReportText.{short_text_of}
-use Rattle.sv_workload.specs.Load.{Load}
+use Rattle.sv_load.specs.Load.{Load}
 use Rattle.sv_workload.specs.Grammar.{first_reason, IsWorkload}
 use Rattle.sv_workload.specs.Generated.{generated_load}
 use Rattle.sv_journal.specs.declared.journal.Item.{Item}
 use Rattle.sv_journal.specs.Legal.{IsLegal, IsWhole}
 use Rattle.sv_journal.specs.Stream.{stream_of}
 use Rattle.sv_core.specs.Simulated.{IsSimulated}
-use Rattle.sv_core.specs.Start.{has_start}
+use Rattle.sv_sent.specs.Start.{has_start}
 use Rattle.sv_truth.specs.Truth.{TellsTruly}
 use Rattle.sv_run.specs.Ran.{HasStory}
 use Rattle.sv_cli.specs.declared.simulated.Unsimulated.{Unsimulated}

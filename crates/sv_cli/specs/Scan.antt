@@ -11,7 +11,7 @@ use Rattle.sv_stream.specs.declared.end.End.{End}
 use Rattle.sv_stream.specs.declared.end.End.TheVariants as ends
 use Rattle.sv_stream.specs.Decoding.{Decoding, StandsFor, IsSettled, IsDamaged, pushed}
 use Rattle.sv_stream.specs.Reads.{Reads}
-use Rattle.sv_report.specs.Ends.{number_of}
+use Rattle.sv_report.specs.Ends.{number_of_reason}
 use Rattle.sv_cli.specs.declared.scan.Cut.{Cut}
 use Rattle.sv_cli.specs.declared.scan.Cut.TheVariants as cuts
 use Rattle.sv_cli.specs.declared.scan.Scan.{Scan}
@@ -26,7 +26,7 @@ abbrev pub status_for : Result End Cut → Status
 status_for (Ok ends.Clean) = Done
 status_for (Ok (ends.Truncated held)) = Truncated held
 status_for (Ok ends.NoSync) = NoSync
-status_for (Ok (ends.Damaged place reason)) = Damaged place (number_of reason)
+status_for (Ok (ends.Damaged place reason)) = Damaged place (number_of_reason reason)
 status_for (Err cuts.Unread) = ReadFault
 status_for (Err cuts.TooLong) = TooLong most_bytes
 status_for (Err cuts.Unwritten) = WriteFault

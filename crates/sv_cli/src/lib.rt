@@ -25,6 +25,3 @@ pub use command::Command;
 pub use commands::timeline::timeline_lines;
 pub use status::{Status, say};
 pub use top::{offline, sysview};
-
-#[cfg(test)]
-mod tests;

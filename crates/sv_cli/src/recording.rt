@@ -10,8 +10,8 @@ use crate::simulated::{Simulation, Unsimulated, simulated};
 use crate::status::Status;
 use std::alloc::Global;
 use sv_base::{Failed, Sink, put_all};
-use sv_core::has_start;
 use sv_journal::Journal;
+use sv_sent::has_start;
 
 /// Writes the line of a recording and its bytes.
 fn put_recording<K: Sink>(out: &mut K, bytes: &[u8]) -> Result<(), Failed>

@@ -15,10 +15,10 @@ use crate::status::Status;
 use std::alloc::Global;
 use sv_analyse::{Analyser, Report};
 use sv_base::{Sink, put_all};
-use sv_core::has_start;
 use sv_journal::Journal;
 use sv_prim::NoMemory;
 use sv_report::text as report_text;
+use sv_sent::has_start;
 
 /// The report of these bytes.
 pub fn report_of_bytes(alloc: Global, bytes: &[u8]) -> Result<Report, NoMemory>

@@ -10,14 +10,14 @@ use std::alloc::Global;
 use std::sync::Wait;
 use std::thread::Threads;
 use sv_base::{Gate, Sink, put_all};
-use sv_core::{has_start, reads_as_sent};
 use sv_journal::Journal;
+use sv_load::Workload;
 use sv_prim::NoMemory;
 use sv_report::text as report_text;
 use sv_ring::Dock;
 use sv_run::run;
-use sv_truth::named_truly;
-use sv_workload::{WorkFault, Workload, parse};
+use sv_sent::{has_start, reads_as_sent};
+use sv_workload::{WorkFault, parse};
 
 /// Runs the workload in threads, and gives the report of the bytes that the host has taken.
 ///
@@ -37,10 +37,9 @@ fn run_report<R: Threads + Wait + Sync, D: Dock, G: Gate>(
     ensures report { IfOk result
         (λ lines. IsReportText text_of load.now journal.new.items lines.items) }
 {
-    // What is known of every such stream: how it ends, and that it names nothing that is not so.
+    // What is known of every such stream: how it ends.
     load.writers();
     reads_as_sent();
-    named_truly();
     let analyser = run(rt, alloc, load, dock, gate, journal)?;
     let report = analyser.report()?;
     report_text(alloc, &report)

@@ -5,17 +5,19 @@ ghost use Rattle.sv_stream.specs.declared.end.End.{End};
 ghost use Rattle.sv_stream.specs.Reads.{Reads};
 ghost use Rattle.sv_journal.specs.Stream.{stream_of};
 ghost use Rattle.sv_core.specs.Simulated.{IsSimulated};
-ghost use Rattle.sv_core.specs.Start.{has_start};
+ghost use Rattle.sv_sent.specs.Start.{has_start};
 ghost use Rattle.sv_truth.specs.Truth.{TellsTruly};
 ghost use Rattle.sv_workload.specs.Grammar.{IsWorkload};
 ghost use Rattle.sv_cli.specs.Recorded.{IsRun, IsUnsimulated, sent_end};
 
 use std::alloc::Global;
-use sv_core::{Simulated, reads_as_sent, simulate};
+use sv_core::{Simulated, simulate};
+use sv_load::Workload;
 use sv_need::within_need;
 use sv_prim::NoMemory;
+use sv_sent::reads_as_sent;
 use sv_truth::named_truly;
-use sv_workload::{WorkFault, Workload, parse};
+use sv_workload::{WorkFault, parse};
 
 /// The most bytes of a workload.
 pub const MOST_BYTES: u64 = 1 << 26;

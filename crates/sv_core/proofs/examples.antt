@@ -6,4 +6,3 @@ pub mod Stopped
 pub mod StoppedFreed
 pub mod Narrow
 pub mod Interleaved
-pub mod Read

@@ -1,20 +1,21 @@
 -- Turns that no journal has, by the place where they fail.
 use Rattle.std.specs.Prelude.{◌≡◌, ℕ, suc, ◌-◌, ◌<◌, ◌≤◌, List, [], ◌∷◌, ◌++◌, length, take}
 use Rattle.std.specs.Prelude.{slice_get, count_by, IsTrue, Some, All}
-use Rattle.sv_workload.specs.Load.{Load, script_of}
+use Rattle.sv_load.specs.Load.{Load, script_of}
 use Rattle.sv_journal.specs.declared.journal.Item.{Item}
 use Rattle.sv_journal.specs.Items.{latest_first, is_call_of, is_command, is_written, stored_before}
-use Rattle.sv_core.specs.Turns.{StepTurn, Turns, IsReplayed, written_freed, frees_before}
+use Rattle.sv_journal.specs.Frees.{written_freed, frees_before}
+use Rattle.sv_core.specs.Turns.{StepTurn, Turns, IsReplayed}
 
 -- a journal that these step turns give, whatever is freed
-abbrev pub IsRun : Load → List StepTurn → List Item → Type 0
-IsRun load steps items =
+abbrev pub IsReplayedBy : Load → List StepTurn → List Item → Type 0
+IsReplayedBy load steps items =
     IsReplayed load (record { steps = steps; frees = frees_before (latest_first items) }) items
 
 -- the first step turns, so many, give this journal by the first of the frees, and these are left
 pub record IsReplayedTo (load : Load) (turns : Turns) (number : ℕ) (items : List Item)
     (left : List ℕ) : Type 0 where
-  pub run : IsRun load (take number turns.steps) items
+  pub run : IsReplayedBy load (take number turns.steps) items
   pub frees : frees_before (latest_first items) ++ left ≡ turns.frees
 
 -- there is no number, or it is more than this
@@ -45,7 +46,7 @@ pub data IsFault (load : Load) (turns : Turns) (at : ℕ) (before : List Item) (
       length load.commands ≤ count_by (λ i. is_command i.origin) before →
       IsFault load turns at before turn
   -- the frees run out in it, or free more than is stored and not freed
-  No_frees : (items : List Item) → IsRun load (take (suc at) turns.steps) items →
+  No_frees : (items : List Item) → IsReplayedBy load (take (suc at) turns.steps) items →
       FallsShort load turns.frees (latest_first items) → IsFault load turns at before turn
 
 -- what is left to take at a place

@@ -2,11 +2,9 @@ pub mod Turns
 pub mod Order
 pub mod Simulated
 pub mod Played
-pub mod Start
 pub mod Turned
-pub mod Settled
+pub mod Replayed
 pub mod BadTurns
 pub mod Rises
 pub mod Used
 pub mod Planned
-pub mod Sent

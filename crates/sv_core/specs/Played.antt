@@ -3,15 +3,15 @@ use Rattle.std.specs.Prelude.{◌≡◌, ℕ, ◌≤◌, List, [], ◌∷◌, �
 use Rattle.std.specs.Prelude.{count_by, slice_get, Some, if◌then◌else◌}
 use Rattle.std.specs.Option.{option_map}
 use Rattle.sv_ring.specs.Ring.{Still}
-use Rattle.sv_workload.specs.declared.load.Command.{Command}
-use Rattle.sv_workload.specs.Load.{Load}
+use Rattle.sv_load.specs.declared.load.Command.{Command}
+use Rattle.sv_load.specs.Load.{Load}
 use Rattle.sv_journal.specs.Legal.{IsLegal, commands_in}
-use Rattle.sv_recorder.specs.Commands.{command_bytes, bytes_in}
-use Rattle.sv_recorder.specs.Recording.{Recording}
 use Rattle.sv_journal.specs.Stream.{stream_of}
+use Rattle.sv_recorder.specs.Commands.{command_bytes, command_bytes_in}
+use Rattle.sv_recorder.specs.Recording.{Recording}
 use Rattle.sv_core.specs.BadTurns.{AreAskable}
-use Rattle.sv_core.specs.Order.{Turn, Takes_step, is_send, is_possible, scheduled}
-use Rattle.sv_core.specs.Order.{sends_left, count_up, round_of}
+use Rattle.sv_core.specs.Order.{Turn, Takes_step, is_send, is_possible, scheduled, sends_left}
+use Rattle.sv_core.specs.Order.{count_up, round_of}
 use Rattle.sv_core.specs.Simulated.{IsInOrder, taken_in}
 
 -- the bytes of the workload's first commands, so many
@@ -26,7 +26,7 @@ pub record HasSent (load : Load) (recorder : Recording) (sends : ℕ) : Type 0 w
   pub waiting : List Command
   pub sent : commands_in recorder.items ++ waiting ≡ take sends load.commands
   pub asked : recorder.asked ≡ Some (sent_bytes load sends)
-  pub answered : recorder.answered ≡ bytes_in recorder.items
+  pub answered : recorder.answered ≡ command_bytes_in recorder.items
   pub kept : recorder.kept ≡ []
 
 -- after so many commands the host has sent the next one, and nothing else has changed

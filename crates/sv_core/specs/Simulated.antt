@@ -1,17 +1,17 @@
 -- The journal of a simulation.
 use Rattle.std.specs.Prelude.{◌≡◌, ℕ, ◌+◌, ◌-◌, min, Bool, List, [], ◌∷◌, ◌++◌, reverse, count_by}
 use Rattle.std.specs.Prelude.{nat_lt, if◌then◌else◌}
-use Rattle.sv_workload.specs.Load.{Load}
+use Rattle.sv_load.specs.Load.{Load}
 use Rattle.sv_journal.specs.declared.journal.Origin.{Origin}
 use Rattle.sv_journal.specs.declared.journal.Origin.TheVariants.{Overflow}
 use Rattle.sv_journal.specs.declared.journal.Item.{Item}
-use Rattle.sv_journal.specs.Items.{latest_first, is_call, is_command, is_overflow, before_overflow}
+use Rattle.sv_journal.specs.Items.{latest_first, is_call, is_command, before_overflow}
 use Rattle.sv_journal.specs.Items.{stored_before}
+use Rattle.sv_journal.specs.Frees.{overflow_freed}
 use Rattle.sv_journal.specs.Legal.{IsLegal, IsWhole, EachItem}
-use Rattle.sv_core.specs.Turns.{StepTurn}
+use Rattle.sv_core.specs.Turns.{StepTurn, step_turns}
 use Rattle.sv_core.specs.Order.{Turn, Takes_step, Reads, Reads_all, Sends, is_step, is_send}
 use Rattle.sv_core.specs.Order.{order_of}
-use Rattle.sv_core.specs.Turns.{step_turns}
 
 -- of a list with the latest first, what came before the one with this number that passes, counted
 -- from 0
@@ -65,11 +65,6 @@ IsTaken load turns items earlier item (Overflow count) = Unit {0}
 IsTaken load turns items earlier item other =
     item.freed ≡ taken_in load items
     (before_step turns (count_by (λ i. is_call i.origin) (item ∷ earlier) - 1))
-
--- the freed of the overflow directly before, if there is one, and else this one
-abbrev pub overflow_freed : List Item → ℕ → ℕ
-overflow_freed [] freed = freed
-overflow_freed (i ∷ earlier) freed = if is_overflow i.origin then i.freed else freed
 
 pub record IsTakenItem (load : Load) (turns : List Turn) (items earlier : List Item) (item : Item) :
     Type 0 where

@@ -4,12 +4,13 @@ use Rattle.sv_journal.specs.declared.journal.Origin.{Origin}
 use Rattle.sv_journal.specs.declared.journal.Origin.TheVariants.{Call, Command}
 use Rattle.sv_journal.specs.declared.journal.Item.{Item}
 use Rattle.sv_journal.specs.Items.{is_written}
-use Rattle.sv_core.specs.Turns.{StepTurn, Turns, written_freed}
+use Rattle.sv_journal.specs.Frees.{written_freed}
+use Rattle.sv_core.specs.Turns.{StepTurn, Turns}
 use Rattle.sv_core.specs.declared.turns.Turns.{Turns as KeptTurns}
 
--- the turns that are kept
-abbrev pub kept : KeptTurns → Turns
-kept turns = record { steps = turns.steps.items; frees = turns.frees.items }
+-- the turns that Rust lists hold
+abbrev pub turns_held : KeptTurns → Turns
+turns_held turns = record { steps = turns.steps.items; frees = turns.frees.items }
 
 -- the last turn has a command
 abbrev pub asked_last : List StepTurn → List StepTurn

@@ -1,12 +1,13 @@
 -- The turns of a journal, and journals that have given turns.
-use Rattle.std.specs.Prelude.{◌≡◌, ℕ, ◌-◌, Bool, not, List, [], ◌∷◌, ◌++◌, take_while, IsTrue}
+use Rattle.std.specs.Prelude.{◌≡◌, ℕ, Bool, not, List, [], ◌∷◌, ◌++◌, take_while, IsTrue}
 use Rattle.std.specs.Prelude.{if◌then◌else◌}
 use Rattle.std.specs.List.{list_any}
-use Rattle.sv_workload.specs.Load.{Load}
+use Rattle.sv_load.specs.Load.{Load}
 use Rattle.sv_journal.specs.declared.journal.Origin.{Origin}
 use Rattle.sv_journal.specs.declared.journal.Origin.TheVariants.{Call}
 use Rattle.sv_journal.specs.declared.journal.Item.{Item}
 use Rattle.sv_journal.specs.Items.{latest_first, is_call, is_command, is_written}
+use Rattle.sv_journal.specs.Frees.{written_freed, frees_before}
 use Rattle.sv_journal.specs.Legal.{IsLegal, EachItem, AreFirstCommands}
 pub use Rattle.sv_core.specs.declared.turns.StepTurn.{StepTurn}
 
@@ -30,32 +31,21 @@ abbrev pub step_turns : List Item → List StepTurn
 step_turns [] = []
 step_turns (i ∷ later) = turn_at i.origin later ++ step_turns later
 
--- the freed of the latest written item
-abbrev pub written_freed : List Item → ℕ
-written_freed [] = 0
-written_freed (i ∷ earlier) = if is_written earlier i then i.freed else written_freed earlier
-
--- for each written item, what was freed since the one before
-abbrev pub frees_before : List Item → List ℕ
-frees_before [] = []
-frees_before (i ∷ earlier) =
-    frees_before earlier ++ (if is_written earlier i then (i.freed - written_freed earlier) ∷ []
-    else [])
-
 -- the turns of a journal
 abbrev pub turns_of : List Item → Turns
 turns_of items = record { steps = step_turns items; frees = frees_before (latest_first items) }
 
 -- an item that is not written has the freed of the latest written item
-abbrev pub IsSettled : List Item → Item → Type 0
-IsSettled earlier item = IsTrue (not (is_written earlier item)) → item.freed ≡ written_freed earlier
+abbrev pub HasLatestFreed : List Item → Item → Type 0
+HasLatestFreed earlier item = IsTrue (not (is_written earlier item))
+    → item.freed ≡ written_freed earlier
 
 -- a journal that these turns give
 pub record IsReplayed (load : Load) (turns : Turns) (items : List Item) : Type 0 where
   pub legal : IsLegal load items
   pub turned : turns_of items ≡ turns
   pub commands : AreFirstCommands load items
-  pub settled : EachItem IsSettled (latest_first items)
+  pub settled : EachItem HasLatestFreed (latest_first items)
 
 -- the items, with no freed where nothing was written
 abbrev pub without_idle : List Item → List Item

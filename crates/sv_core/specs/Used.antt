@@ -2,7 +2,8 @@
 use Rattle.std.specs.Prelude.{◌≡◌, ℕ, ◌≤◌, Bool, List, ◌++◌, length, take}
 use Rattle.sv_journal.specs.declared.journal.Item.{Item}
 use Rattle.sv_journal.specs.Items.{latest_first, is_after_refused_overflow}
-use Rattle.sv_core.specs.Turns.{StepTurn, Turns, written_freed, frees_before}
+use Rattle.sv_journal.specs.Frees.{written_freed, frees_before}
+use Rattle.sv_core.specs.Turns.{StepTurn, Turns}
 
 abbrev pub turns_by : List StepTurn → List ℕ → Turns
 turns_by steps frees = record { steps = steps; frees = frees }
@@ -18,7 +19,7 @@ IsUsingOthers items frees =
     (left : List ℕ) → frees_before (latest_first items) ++ left ≡ frees → ⊥
 
 -- so many of the frees are used by these items, of which the last written one has this freed
-pub record IsCounted (done : List Item) (frees : List ℕ) (count freed : ℕ) (after_lost : Bool) :
+pub record HasUsed (done : List Item) (frees : List ℕ) (count freed : ℕ) (after_lost : Bool) :
     Type 0 where
   pub using : frees_before (latest_first done) ≡ take count frees
   pub most : count ≤ length frees

@@ -11,14 +11,9 @@ mod laws;
 mod plan_ring;
 mod replays;
 mod simulation;
-mod start;
 mod turns;
 
-pub use laws::{bad_turns, frees_small, reads_as_sent, replay_same, replayed_once, simulated_once};
+pub use laws::{bad_turns, frees_small, replay_same, replayed_once, simulated_once};
 pub use replays::{ReplayFault, replay};
 pub use simulation::{Simulated, simulate};
-pub use start::has_start;
 pub use turns::{StepTurn, Turns, turns_of};
-
-#[cfg(test)]
-mod tests;

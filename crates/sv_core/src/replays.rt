@@ -6,8 +6,8 @@ ghost use Rattle.sv_journal.specs.Stream.{stream_of};
 ghost use Rattle.sv_core.specs.BadTurns.{IsBadTurns};
 ghost use Rattle.sv_core.specs.Played.{HasSent};
 ghost use Rattle.sv_core.specs.Turns.{IsReplayed};
-ghost use Rattle.sv_core.specs.Turned.{kept};
-ghost use Rattle.sv_core.specs.Used.{IsCounted, IsUsingOthers};
+ghost use Rattle.sv_core.specs.Turned.{turns_held};
+ghost use Rattle.sv_core.specs.Used.{HasUsed, IsUsingOthers};
 
 use crate::plan_ring::PlanRing;
 use crate::simulation::{Simulated, send_next};
@@ -15,10 +15,10 @@ use crate::turns::{Turns, is_lost, is_written};
 use std::alloc::Global;
 use sv_desc::{Describe, Describes, micros_of, put_line};
 use sv_journal::Item;
+use sv_load::Workload;
 use sv_prim::{Buf, NoMemory};
 use sv_recorder::Recorder;
 use sv_ring::{PlainDown, UpWriter};
-use sv_workload::Workload;
 use thiserror::Error;
 
 /// Why turns are not replayed.
@@ -46,10 +46,10 @@ struct Used {
 /// What the items from a place on use more of the frees. None where they free by others.
 fn used_from(items: &[Item], from: usize, frees: &[u32], before: Used) -> Option<Used>
     requires from { from ≤ length items.now }
-    requires counted { IsCounted (take from items.now) frees.now
+    requires counted { HasUsed (take from items.now) frees.now
         before.count before.freed before.after_lost }
     ensures { MatchOption result (IsUsingOthers items.now frees.now)
-        (λ used. IsCounted items.now frees.now used.count used.freed used.after_lost) }
+        (λ used. HasUsed items.now frees.now used.count used.freed used.after_lost) }
 {
     let mut used = before;
     for place in from..items.len() {
@@ -103,8 +103,9 @@ fn take_turns<U: UpWriter + Drop, P: Describes + Drop>(
     requires freed { recorder.old.freed ≡ 0 }
     requires way { recorder.old.way ≡ Plan turns.now.frees.items }
     requires sent { HasSent load.now recorder.old 0 }
-    ensures told { MatchOption result (IsReplayed load.now (kept turns.now) recorder.new.items)
-        (IsBadTurns load.now (kept turns.now)) }
+    ensures told { MatchOption result
+        (IsReplayed load.now (turns_held turns.now) recorder.new.items)
+        (IsBadTurns load.now (turns_held turns.now)) }
     ensures stream { recorder.new.sent ≡ stream_of load.now recorder.new.items }
 {
     recorder.keeps();
@@ -153,10 +154,11 @@ fn replay_with<P: Describes + Drop>(
     requires desc { P.kept desc }
     requires lines { P.lines desc ≡ load.now.lines }
     requires clock { P.clock desc ≡ load.now.clock }
-    ensures replayed { IfOk result (λ run. IsReplayed load.now (kept turns.now) run.journal.items) }
+    ensures replayed { IfOk result
+        (λ run. IsReplayed load.now (turns_held turns.now) run.journal.items) }
     ensures bytes { IfOk result (λ run. run.bytes.items ≡ stream_of load.now run.journal.items) }
     ensures bad { (at : ℕ) → IsErrOf result (ReplayFault.BadTurns at) →
-        IsBadTurns load.now (kept turns.now) at }
+        IsBadTurns load.now (turns_held turns.now) at }
 {
     let frees = turns.frees.as_slice();
     let Ok(up) = PlanRing::new(alloc, load.ring(), load.need().bytes, frees) else {
@@ -178,9 +180,10 @@ fn replay_with<P: Describes + Drop>(
     }
 }
 
-/// Runs a workload again, turn by turn: each turn is the next step of its writer, and the host's next
-/// command where the turn has one, and before each write the next number of bytes is freed. Turns that [`turns_of`] read from a legal journal give
-/// that journal again, but for what unwritten items found freed, and its bytes ([`replay_same`]).
+/// Runs a workload again, turn by turn: each turn is the next step of its writer, and the host's
+/// next command where the turn has one, and before each write the next number of bytes is freed.
+/// Turns that [`turns_of`] read from a legal journal give that journal again, but for what unwritten
+/// items found freed, and its bytes ([`replay_same`]).
 ///
 /// BadTurns comes exactly where no such run exists, with the place of the first turn that cannot be
 /// taken. Memory is taken once for the journal and once for the bytes.
@@ -188,10 +191,11 @@ fn replay_with<P: Describes + Drop>(
 /// [`turns_of`]: crate::turns_of
 /// [`replay_same`]: crate::replay_same
 pub fn replay(alloc: Global, load: &Workload, turns: &Turns) -> Result<Simulated, ReplayFault>
-    ensures replayed { IfOk result (λ run. IsReplayed load.now (kept turns.now) run.journal.items) }
+    ensures replayed { IfOk result
+        (λ run. IsReplayed load.now (turns_held turns.now) run.journal.items) }
     ensures bytes { IfOk result (λ run. run.bytes.items ≡ stream_of load.now run.journal.items) }
     ensures bad { (at : ℕ) → IsErrOf result (ReplayFault.BadTurns at) →
-        IsBadTurns load.now (kept turns.now) at }
+        IsBadTurns load.now (turns_held turns.now) at }
 {
     let lines = load.lines();
     let clock = load.clock();

@@ -3,22 +3,23 @@ ghost use Rattle.std.specs.Prelude.{◌≡◌, ◌+◌, ◌-◌, ◌<◌, ◌≤
 ghost use Rattle.std.specs.Prelude.{length, min, count_by, replicate, reverse};
 ghost use Rattle.std.specs.Option.{option_map};
 ghost use Rattle.sv_ring.specs.Ring.{Still};
-ghost use Rattle.sv_workload.specs.Load.{Load, script_of};
-ghost use Rattle.sv_workload.specs.Need.{steps_in};
+ghost use Rattle.sv_load.specs.Load.{Load, script_of};
+ghost use Rattle.sv_load.specs.Need.{steps_in};
 ghost use Rattle.sv_journal.specs.Items.{is_call_of};
 ghost use Rattle.sv_recorder.specs.Commands.{command_bytes};
 ghost use Rattle.sv_journal.specs.Stream.{stream_of};
 ghost use Rattle.sv_core.specs.Order.{Turn, Takes_step, is_possible, is_send, possible, scheduled};
-ghost use Rattle.sv_core.specs.Played.{HasSent, IsSending, IsPlayed, with_step, sent_first, played_rounds};
+ghost use Rattle.sv_core.specs.Played.{HasSent, IsSending, IsPlayed, with_step, sent_first};
+ghost use Rattle.sv_core.specs.Played.{played_rounds};
 ghost use Rattle.sv_core.specs.Simulated.{IsSimulated};
 
 use std::alloc::Global;
 use sv_desc::{Describe, Describes, micros_of, put_line};
 use sv_journal::Journal;
+use sv_load::{Action, Command, Workload};
 use sv_prim::{Buf, NoMemory};
 use sv_recorder::Recorder;
 use sv_ring::{PlainDown, PlainRing, UpWriter};
-use sv_workload::{Action, Command, Workload};
 
 /// A whole run: its journal, and all bytes that were sent.
 #[derive(Drop)]

@@ -5,7 +5,7 @@ ghost use Rattle.sv_journal.specs.Items.{latest_first, is_overflow, is_refused};
 ghost use Rattle.sv_journal.specs.Items.{is_after_refused_overflow, is_written as writes};
 ghost use Rattle.sv_journal.specs.Legal.{EachItem};
 ghost use Rattle.sv_core.specs.Turns.{turns_of as turns_in};
-ghost use Rattle.sv_core.specs.Turned.{kept, asked_last, turns_with, RisesLittle};
+ghost use Rattle.sv_core.specs.Turned.{turns_held, asked_last, turns_with, RisesLittle};
 
 use std::alloc::Global;
 use sv_journal::{Item, Journal, Origin, Outcome};
@@ -93,7 +93,7 @@ fn pass(steps: &mut Vec<StepTurn>, origin: Origin) -> Result<(), NoMemory>
 /// [`frees_small`]: crate::frees_small
 pub fn turns_of(alloc: Global, journal: &Journal) -> Result<Turns, NoMemory>
     requires rises { EachItem RisesLittle (latest_first journal.now.items) }
-    ensures { IfOk result (λ turns. kept turns ≡ turns_in journal.now.items) }
+    ensures { IfOk result (λ turns. turns_held turns ≡ turns_in journal.now.items) }
 {
     let mut steps = Vec::new(alloc);
     let mut frees = Vec::new(alloc);

@@ -3,3 +3,5 @@ pub mod examples
 pub mod Steps
 pub mod Next
 pub mod Scripts
+pub mod Parts
+pub mod Facts

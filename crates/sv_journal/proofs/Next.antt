@@ -2,7 +2,7 @@
 use Rattle.std.proofs.Common.{◌≡◌, ℕ, ◌≤◌, true, false, ◌&&◌, cond, List, [], ◌∷◌, refl, sym, ap}
 use Rattle.std.proofs.Common.{◌∙◌}
 use Rattle.std.specs.Prelude.{sum_by}
-use Rattle.sv_workload.specs.Load.{Load}
+use Rattle.sv_load.specs.Load.{Load}
 use Rattle.sv_journal.specs.declared.journal.Origin.{Origin}
 use Rattle.sv_journal.specs.declared.journal.Origin.TheVariants.{Call, Sync, Reply, Overflow}
 use Rattle.sv_journal.specs.declared.journal.Origin.TheVariants.{Command}
@@ -12,12 +12,12 @@ use Rattle.sv_journal.specs.Items.{is_overflow, is_refused, is_on, pending_at, i
 use Rattle.sv_journal.specs.Items.{is_after_refused_overflow, before_overflow, stored_before}
 use Rattle.sv_journal.specs.Legal.{IsNextItem, owes_overflow, outcome_at, write_outcome, IsMoment}
 use Rattle.sv_journal.specs.Legal.{IsNextStep, IsCount, IsCommandInPlace, overflow_moment}
-use Rattle.sv_journal.specs.Legal.{freed_before, ticks_of}
+use Rattle.sv_journal.specs.Legal.{freed_before, step_ticks}
 use Rattle.sv_journal.proofs.Steps.{outcome_at-write}
 
 -- the sum of the advances so far
 abbrev pub ticks_at : Load → List Item → ℕ
-ticks_at load items = sum_by (λ i. ticks_of load i.origin) items
+ticks_at load items = sum_by (λ i. step_ticks load i.origin) items
 
 before_overflow-fresh : (earlier : List Item) → is_after_overflow earlier ≡ false
     → before_overflow earlier ≡ earlier

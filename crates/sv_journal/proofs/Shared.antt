@@ -11,8 +11,15 @@ pub use Rattle.sv_journal.proofs.Steps.{pending_at-other, pending_at-refused}
 pub use Rattle.sv_journal.proofs.Steps.{pending_at-stored_overflow}
 pub use Rattle.sv_journal.proofs.Next.{Stands, next-plain, next-overflow, next-after}
 pub use Rattle.sv_journal.proofs.Next.{after_refused-fresh, overflow_item}
+pub use Rattle.sv_journal.proofs.Parts.{after-push, alone, each-front, more_groups, next_is}
+pub use Rattle.sv_journal.proofs.Parts.{no_packet, not_head, not_two, origins_of-append}
+pub use Rattle.sv_journal.proofs.Parts.{origins_of-cons, reverse_moved, unmoved}
+pub use Rattle.sv_journal.proofs.Facts.{forms_packet, freed_rises, freed-written, frees-written}
+pub use Rattle.sv_journal.proofs.Facts.{moment_is, no_overflow, no_ticks, overflow_is}
+pub use Rattle.sv_journal.proofs.Facts.{overflow_written, packet_is, same_next, ticks_in}
+pub use Rattle.sv_journal.proofs.Facts.{ticks-before_overflow, ticks-cons, writes, written_is}
 -- and of the journals worked out by hand
-pub use Rattle.sv_journal.proofs.examples.Words.{at, load_of, start, whole_of}
+pub use Rattle.sv_journal.proofs.examples.Words.{Same, at, load_of, mark, start, stop, whole_of}
 pub use Rattle.sv_journal.proofs.examples.Alone.{load as alone_load, items as alone_items}
 pub use Rattle.sv_journal.proofs.examples.Refusals.{load as refused_load, items as refused_items}
 pub use Rattle.sv_journal.proofs.examples.Refusals.{legal as refused_legal}

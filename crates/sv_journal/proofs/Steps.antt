@@ -9,7 +9,7 @@ use Rattle.std.proofs.lemmas.List.Elements.{filter-append}
 use Rattle.std.proofs.lemmas.List.Sums.{sum_by-cons, take_while-cons}
 use Rattle.std.specs.Option.{option_map_or}
 use Rattle.std.proofs.Common.{length-append}
-use Rattle.sv_workload.specs.Load.{Load}
+use Rattle.sv_load.specs.Load.{Load}
 use Rattle.sv_journal.specs.declared.journal.Origin.{Origin}
 use Rattle.sv_journal.specs.declared.journal.Outcome.TheVariants.{Refused, Ignored, Handled}
 use Rattle.sv_journal.specs.declared.journal.Item.{Item}

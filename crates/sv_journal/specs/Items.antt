@@ -1,6 +1,6 @@
 -- Journal items. Each is looked at from its place: `earlier` is the items before it, the latest
 -- first.
-use Rattle.std.specs.Prelude.{ℕ, ◌-◌, ◌*◌, ◌/◌, ◌%◌, ◌^◌, Bool, true, false, not, ◌&&◌, ◌||◌, List}
+use Rattle.std.specs.Prelude.{ℕ, ◌-◌, ◌/◌, ◌%◌, ◌^◌, Bool, true, false, not, ◌&&◌, ◌||◌, List}
 use Rattle.std.specs.Prelude.{[], ◌∷◌, ◌++◌, length, slice_get, slice_index_or, replicate, reverse}
 use Rattle.std.specs.Prelude.{find, count_by, take, take_while, ◌==◌, if◌then◌else◌}
 use Rattle.std.specs.Option.{option_map_or}
@@ -8,13 +8,13 @@ use Rattle.sv_prim.specs.Shrink.{shrunk}
 use Rattle.sv_packet.specs.declared.event.Event.{Event}
 use Rattle.sv_packet.specs.declared.event.Event.TheVariants as events
 use Rattle.sv_packet.specs.Spelling.{spelling_of}
-use Rattle.sv_workload.specs.declared.load.Act.{Act}
-use Rattle.sv_workload.specs.declared.load.Act.TheVariants as acts
-use Rattle.sv_workload.specs.declared.load.Task.{Task}
+use Rattle.sv_load.specs.declared.load.Act.{Act}
+use Rattle.sv_load.specs.declared.load.Act.TheVariants as acts
+use Rattle.sv_load.specs.declared.load.Task.{Task}
+use Rattle.sv_load.specs.Load.{Load, act_of, period}
+use Rattle.sv_load.specs.Need.{is_start_act, is_stop_act}
 use Rattle.sv_desc.specs.Modules.{ModuleRow, offset_after}
 use Rattle.sv_desc.specs.Says.{micros_at}
-use Rattle.sv_workload.specs.Load.{Load, act_of, period}
-use Rattle.sv_workload.specs.Need.{is_start_act, is_stop_act}
 use Rattle.sv_journal.specs.declared.journal.Kind.{Kind}
 use Rattle.sv_journal.specs.declared.journal.Kind.TheVariants as kinds
 use Rattle.sv_journal.specs.declared.journal.Origin.{Origin}
@@ -29,6 +29,11 @@ abbrev pub latest_first : List Item → List Item
 latest_first items = reverse items
 
 -- WHAT AN ITEM IS
+
+-- the item of these values
+abbrev pub item_of : Origin → ℕ → ℕ → Outcome → Item
+item_of origin moment freed outcome =
+    record { origin = origin; moment = moment; freed = freed; outcome = outcome }
 
 abbrev pub is_call : Origin → Bool
 is_call (Call writer step) = true

@@ -4,15 +4,14 @@ use Rattle.std.specs.Prelude.{length, map, filter, find, flat_map, sum_by, count
 use Rattle.std.specs.Prelude.{nat_lt, IsTrue, if◌then◌else◌}
 use Rattle.std.specs.Option.{option_map_or}
 use Rattle.std.specs.List.{enumerate_from}
-use Rattle.sv_workload.specs.declared.load.Command.{Command}
-use Rattle.sv_workload.specs.Load.{Load, script_of, advance_of}
+use Rattle.sv_load.specs.declared.load.Command.{Command}
+use Rattle.sv_load.specs.Load.{Load, script_of, advance_of}
 use Rattle.sv_journal.specs.declared.journal.Kind.{Kind}
 use Rattle.sv_journal.specs.declared.journal.Kind.TheVariants as kinds
 use Rattle.sv_journal.specs.declared.journal.Origin.{Origin}
 use Rattle.sv_journal.specs.declared.journal.Origin.TheVariants as origins
 use Rattle.sv_journal.specs.declared.journal.Outcome.{Outcome}
-use Rattle.sv_journal.specs.declared.journal.Outcome.TheVariants.{Stored, Refused, Ignored}
-use Rattle.sv_journal.specs.declared.journal.Outcome.TheVariants.{Handled}
+use Rattle.sv_journal.specs.declared.journal.Outcome.TheVariants.{Stored, Refused, Ignored, Handled}
 use Rattle.sv_journal.specs.declared.journal.Item.{Item}
 use Rattle.sv_journal.specs.Items.{latest_first, is_call, is_call_of, is_command, is_overflow}
 use Rattle.sv_journal.specs.Items.{is_start, is_stop, is_packet, is_on, pending_at}
@@ -100,15 +99,15 @@ IsCommandInPlace earlier (origins.Command byte param) = IsTrue (is_after_call_gr
 IsCommandInPlace earlier other = Unit {0}
 
 -- the ticks of an item's step
-abbrev pub ticks_of : Load → Origin → ℕ
-ticks_of load (origins.Call writer step) = advance_of load writer step
-ticks_of load other = 0
+abbrev pub step_ticks : Load → Origin → ℕ
+step_ticks load (origins.Call writer step) = advance_of load writer step
+step_ticks load other = 0
 
 -- the moment is the sum of the advances of the calls so far; an overflow's is told by the item
 -- after it
 abbrev pub IsMoment : Load → List Item → Item → Origin → Type 0
 IsMoment load earlier item (origins.Overflow count) = Unit {0}
-IsMoment load earlier item other = item.moment ≡ sum_by (λ i. ticks_of load i.origin) (item
+IsMoment load earlier item other = item.moment ≡ sum_by (λ i. step_ticks load i.origin) (item
     ∷ earlier)
 
 -- the moment of the overflow directly before, if there is one, and else this one

@@ -1,4 +1,5 @@
 pub mod Items
+pub mod Frees
 pub mod Legal
 pub mod Stream
 pub mod Open

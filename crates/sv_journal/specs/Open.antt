@@ -1,7 +1,7 @@
 -- A journal in the middle of a section: what it still owes.
 use Rattle.std.specs.Prelude.{◌≡◌, ◌≤◌, false, List, [], ◌∷◌, ◌++◌, ◌⊎◌, true, length, filter}
 use Rattle.std.specs.Prelude.{flat_map, count_by}
-use Rattle.sv_workload.specs.Load.{Load}
+use Rattle.sv_load.specs.Load.{Load}
 use Rattle.sv_journal.specs.declared.journal.Origin.{Origin}
 use Rattle.sv_journal.specs.declared.journal.Item.{Item}
 use Rattle.sv_journal.specs.Items.{latest_first, is_command, is_after_overflow}

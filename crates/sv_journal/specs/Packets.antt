@@ -1,7 +1,7 @@
 -- Items that hold packets, and the bytes of those.
 use Rattle.std.specs.Prelude.{ℕ, ◌-◌, ◌%◌, Bool, true, false, List}
 use Rattle.sv_packet.specs.Spelling.{spelling_of}
-use Rattle.sv_workload.specs.Load.{Load, period}
+use Rattle.sv_load.specs.Load.{Load, period}
 use Rattle.sv_journal.specs.declared.journal.Origin.{Origin}
 use Rattle.sv_journal.specs.declared.journal.Origin.TheVariants.{Call, Reply}
 use Rattle.sv_journal.specs.Items.{event_at}

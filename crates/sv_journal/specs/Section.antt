@@ -1,6 +1,6 @@
 -- What one section adds to a journal.
 use Rattle.std.specs.Prelude.{◌≡◌, ℕ, List, [], ◌∷◌, ◌++◌, Option, Some, None, filter, count_by}
-use Rattle.sv_workload.specs.declared.load.Command.{Command}
+use Rattle.sv_load.specs.declared.load.Command.{Command}
 use Rattle.sv_journal.specs.declared.journal.Origin.{Origin}
 use Rattle.sv_journal.specs.declared.journal.Origin.TheVariants as origins
 use Rattle.sv_journal.specs.declared.journal.Item.{Item}

@@ -4,7 +4,7 @@ use Rattle.std.specs.Prelude.{if◌then◌else◌}
 use Rattle.std.specs.List.{list_any}
 use Rattle.sv_packet.specs.declared.event.TimedEvent.{TimedEvent}
 use Rattle.sv_packet.specs.declared.event.Event.TheVariants.{Nop}
-use Rattle.sv_workload.specs.Load.{Load, period}
+use Rattle.sv_load.specs.Load.{Load, period}
 use Rattle.sv_journal.specs.declared.journal.Item.{Item}
 use Rattle.sv_journal.specs.Items.{latest_first, is_sync, is_stored, last_moment, event_of}
 use Rattle.sv_journal.specs.Items.{stream_before}
@@ -19,8 +19,8 @@ abbrev pub is_synced : List Item → Bool
 is_synced earlier = list_any (λ i. is_sync i.origin) earlier
 
 -- what a stored item tells a decoder: a sync is read as five Nops
-abbrev pub told_by : Load → List Item → Item → List TimedEvent
-told_by load earlier item =
+abbrev pub events_told_by : Load → List Item → Item → List TimedEvent
+events_told_by load earlier item =
     if is_sync item.origin
     then replicate 5 (record { time = last_moment earlier; event = Nop })
     else record { time = item.moment; event = event_of load item } ∷ []
@@ -29,8 +29,8 @@ told_by load earlier item =
 abbrev pub events_before : Load → List Item → List TimedEvent
 events_before load [] = []
 events_before load (i ∷ earlier) =
-    events_before load earlier ++ (if is_stored i.outcome && is_synced earlier then told_by load
-    earlier i else [])
+    events_before load earlier ++
+    (if is_stored i.outcome && is_synced earlier then events_told_by load earlier i else [])
 
 abbrev pub sent_events : Load → List Item → List TimedEvent
 sent_events load items = events_before load (latest_first items)

@@ -16,7 +16,7 @@ use Rattle.sv_latency.specs.declared.class.Class.TheVariants.{Measured, Resumed,
 use Rattle.sv_latency.specs.declared.class.TaskTimes.{TaskTimes}
 use Rattle.sv_latency.specs.declared.seen.Seen.{Seen}
 use Rattle.sv_latency.specs.State.{IsAbove, IsRising, IsPlace, IsFit, AreFit, no_times, blank}
-use Rattle.sv_latency.specs.State.{counted, class_kept, kept, State, started}
+use Rattle.sv_latency.specs.State.{counted, class_kept, kept_since, State, started}
 
 pub on_err : {A E P : Type 0} (r : Result A E) → P → OnErr r P
 on_err (Ok value) p = tt
@@ -369,7 +369,7 @@ chosen_time : (b : Bool) (x y : ℕ × Bool) → cond b (Some x) None ≡ Some y
 chosen_time true x y e = cc
 chosen_time false x y e = absurd cc
 
-kept_time : (segment : ℕ) (s : Seen) (at : ℕ) (ready : Bool) → kept segment s ≡ Some (at, ready) →
+kept_time : (segment : ℕ) (s : Seen) (at : ℕ) (ready : Bool) → kept_since segment s ≡ Some (at, ready) →
     at ≡ s.time
 kept_time segment s at ready is =
     let pair : ℕ × Bool = (at, ready) in
@@ -380,9 +380,9 @@ kept_time segment s at ready is =
 -- the waits lie apart, so their sum is no later than the last of them
 pub sum_fits : (n : ℕ) (t : TaskTimes) (s : Seen) (segment applied last time : ℕ) →
     IsFit n t s segment applied last → last ≤ time →
-    (counted t (class_kept (kept segment s) time)).sum ≤ time
+    (counted t (class_kept (kept_since segment s) time)).sum ≤ time
 sum_fits n t s segment applied last time fit le =
-    sum_by (kept segment s) t s.time time (kept_time segment s) fit.sum (omega (arith, fit.time))
+    sum_by (kept_since segment s) t s.time time (kept_time segment s) fit.sum (omega (arith, fit.time))
 
 -- counts grow by one at most
 counts_by : (class : Class) (n : ℕ) (t : TaskTimes) (s s' : Seen) (segment applied last time : ℕ) →
@@ -430,9 +430,9 @@ counts_by Unknown n t s s' segment applied last time fit in_segment at few =
 
 pub counted_fits : (n : ℕ) (t : TaskTimes) (s s' : Seen) (segment applied last time : ℕ) →
     IsFit n t s segment applied last → last ≤ time → s'.segment ≡ segment → s'.time ≡ time →
-    IsFit n (counted t (class_kept (kept segment s) time)) s' segment (applied + 1) time
+    IsFit n (counted t (class_kept (kept_since segment s) time)) s' segment (applied + 1) time
 counted_fits n t s s' segment applied last time fit le in_segment at =
-    counts_by (class_kept (kept segment s) time) n t s s' segment applied last time fit in_segment
+    counts_by (class_kept (kept_since segment s) time) n t s s' segment applied last time fit in_segment
     at (sum_fits n t s segment applied last time fit le)
 
 get_at : {A : Type 0} (xs : List A) (row : ℕ) (d x : A) → row < length xs → x ≡ get_or xs row d →
@@ -487,13 +487,13 @@ seen_time segment applied last names times seen row s within s_is fit =
 pub start_fits : (segment applied last time : ℕ) (names : List ℕ) (times : List TaskTimes)
     (seen : List Seen) (row : ℕ) (t x : TaskTimes) (s s' : Seen) (class : Class) →
     row < length names → last ≤ time → t ≡ get_or times row t → s ≡ get_or seen row s
-    → x ≡ counted t class → class ≡ class_kept (kept segment s) time → s'.segment ≡ segment →
+    → x ≡ counted t class → class ≡ class_kept (kept_since segment s) time → s'.segment ≡ segment →
     s'.time ≡ time → AreFit segment applied last names times seen →
     AreFit segment (applied + 1) time names (slice_set times row x) (slice_set seen row s')
 start_fits segment applied last time names times seen row t x s s' class within le t_is s_is x_is
     class_is in_segment at fit =
     let here = here_at segment applied last names times seen row t s within t_is s_is fit in
-    let whole : x ≡ counted t (class_kept (kept segment s) time) = x_is ∙ ap (counted t) class_is in
+    let whole : x ≡ counted t (class_kept (kept_since segment s) time) = x_is ∙ ap (counted t) class_is in
     let new : IsFit here.name x s' segment (applied + 1) time =
     subst (λ (y : TaskTimes). IsFit here.name y s' segment (applied + 1) time) (sym whole)
     (counted_fits here.name t s s' segment applied last time here.fit le in_segment at) in
@@ -508,7 +508,7 @@ pub started_is : (old : State) (row time : ℕ) (t x times : TaskTimes) (s seen 
     (class : Class) → row < length old.names →
     AreFit old.segment old.applied old.last old.names old.times old.seen
     → t ≡ get_or old.times row t → s ≡ get_or old.seen row s → x ≡ counted t class →
-    class ≡ class_kept (kept old.segment s) time → slice_get old.times row ≡ Some times →
+    class ≡ class_kept (kept_since old.segment s) time → slice_get old.times row ≡ Some times →
     slice_get old.seen row ≡ Some seen
     → ◌≡◌ {A = State} (record {
       names = old.names;
@@ -526,11 +526,11 @@ started_is old row time t x times s seen class within fit t_is s_is x_is class_i
     get_at old.times row t t (omega (arith, lengths.0)) t_is in
     let s_at : slice_get old.seen row ≡ Some s =
     get_at old.seen row s s (omega (arith, lengths.1)) s_is in
-    let whole : x ≡ counted times (class_kept (kept old.segment seen) time)
+    let whole : x ≡ counted times (class_kept (kept_since old.segment seen) time)
     = x_is ∙ ap (counted t) class_is
-    ∙ ap (λ (y : Seen). counted t (class_kept (kept old.segment y) time))
+    ∙ ap (λ (y : Seen). counted t (class_kept (kept_since old.segment y) time))
     (some_same s seen (sym s_at ∙ seen_at)) ∙ ap
-    (λ (y : TaskTimes). counted y (class_kept (kept old.segment seen) time))
+    (λ (y : TaskTimes). counted y (class_kept (kept_since old.segment seen) time))
     (some_same t times (sym t_at ∙ times_at)) in
     ap (λ (y : TaskTimes). record {
       names = old.names;

@@ -21,7 +21,7 @@ use Rattle.sv_latency.specs.Class.{class_of}
 use Rattle.sv_latency.specs.Times.{is_start_of, classes_of, times_from, times_of, tasks_of}
 use Rattle.sv_latency.specs.Times.{all_times}
 use Rattle.sv_latency.specs.Effect.{IsEffect}
-use Rattle.sv_latency.specs.State.{State, remembered, kept, IsAbsent, Holds, StandsFor, IsRising}
+use Rattle.sv_latency.specs.State.{State, remembered, kept_since, IsAbsent, Holds, StandsFor, IsRising}
 use Rattle.sv_latency.specs.State.{IsPlace, AreFit, counted, class_kept, placed, passed, cut, noted}
 use Rattle.sv_latency.specs.State.{started, HasRow}
 use Rattle.sv_latency.proofs.Growing.{last_about-break, last_about-kept, last_about-stays}
@@ -217,7 +217,7 @@ differs n task ns row at none same =
     absurd cc
 
 holds_kept : (segment time : ℕ) (ready : Bool) →
-    kept segment (record { segment = segment; time = time; is_ready = ready }) ≡ Some (time, ready)
+    kept_since segment (record { segment = segment; time = time; is_ready = ready }) ≡ Some (time, ready)
 holds_kept segment time ready = rw (itself segment) refl
 
 pub stands_noted : (state : State) (events : List TimedEvent) (event : TimedEvent) (row task : ℕ)
@@ -231,7 +231,7 @@ stands_noted state events event row task is_ready names says tasks r =
     ap (times_from task) (classes-other task events event (start_none task event says.2)) in
     let last : last_about task (events ++ event ∷ []) ≡ Some event =
     last_about-kept task events event says.0 (about_it task event says.1) in
-    let what : kept state.segment (record {
+    let what : kept_since state.segment (record {
       segment = state.segment;
       time = event.time;
       is_ready =
@@ -260,7 +260,7 @@ class_is (Some last) time = refl
 pub stands_started : (state : State) (events : List TimedEvent) (event : TimedEvent) (row task : ℕ)
     (names : List ℕ) (t : TaskTimes) (s : Seen) → IsEffect (Start task) event.event →
     names ≡ tasks_of events → IsReady state events row task names
-    → t ≡ times_of task events → kept state.segment s ≡ remembered (last_about task events) →
+    → t ≡ times_of task events → kept_since state.segment s ≡ remembered (last_about task events) →
     StandsFor (started state row event.time t s) (events ++ event ∷ [])
 stands_started state events event row task names t s says tasks r time_is what_is =
     let aside = λ (n : ℕ) (differ : n ≢ task). aside_by n events event says.0
@@ -271,16 +271,16 @@ stands_started state events event row task names t s says tasks r time_is what_i
     let more : times_of task (events ++ event ∷ []) ≡ counted (times_of task events) class =
     ap (times_from task) (classes-start task events event class (start_it task event says.2)
     classed) ∙ counted_more task (classes_of task events) class in
-    let kept_class : class_kept (kept state.segment s) event.time ≡ class =
+    let kept_class : class_kept (kept_since state.segment s) event.time ≡ class =
     ap (λ o. class_kept o event.time) what_is
     ∙ sym (class_is (last_about task events) event.time) in
-    let times : counted t (class_kept (kept state.segment s) event.time)
+    let times : counted t (class_kept (kept_since state.segment s) event.time)
     ≡ times_of task (events ++ event ∷ []) =
-    ap (λ (x : TaskTimes). counted x (class_kept (kept state.segment s) event.time)) time_is
+    ap (λ (x : TaskTimes). counted x (class_kept (kept_since state.segment s) event.time)) time_is
     ∙ ap (counted (times_of task events)) kept_class ∙ sym more in
     let last : last_about task (events ++ event ∷ []) ≡ Some event =
     last_about-kept task events event says.0 (about_it task event says.1) in
-    let what : kept state.segment (record {
+    let what : kept_since state.segment (record {
       segment = state.segment;
       time = event.time;
       is_ready =

@@ -16,15 +16,15 @@ use Rattle.sv_packet.specs.Table.{identifier, Number}
 use Rattle.sv_packet.specs.Spelling.{short_spelling, head_spelling, spelling_of, payload_of}
 use Rattle.sv_packet.specs.Spelling.{fields_spelling}
 use Rattle.sv_packet.proofs.Shared.{plain_small}
-use Rattle.sv_workload.specs.declared.load.Task.{Task}
+use Rattle.sv_load.specs.declared.load.Task.{Task}
 use Rattle.sv_desc.specs.Modules.{ModuleRow}
-use Rattle.sv_workload.specs.Load.{Load}
+use Rattle.sv_load.specs.Load.{Load}
 use Rattle.sv_journal.specs.declared.journal.Kind.{Kind}
 use Rattle.sv_journal.specs.declared.journal.Kind.TheVariants as kinds
 use Rattle.sv_journal.specs.Items.{reply_event, system_time, task_info, stack_info}
 use Rattle.sv_desc.specs.Says.{micros_at}
 use Rattle.sv_journal.specs.Items.{module_desc}
-use Rattle.sv_workload.specs.Need.{HasShortTexts}
+use Rattle.sv_load.specs.Need.{HasShortTexts}
 
 number_short : (value : ℕ) → length (number_spelling value) ≤ 5
 number_short value = of_few 4 value

@@ -7,10 +7,10 @@ use Rattle.std.proofs.Math.Nat.{zero-mul, one-mul}
 use Rattle.std.proofs.lemmas.List.{length-append}
 use Rattle.sv_packet.specs.declared.event.Event.TheVariants as events
 use Rattle.sv_packet.specs.Spelling.{spelling_of}
-use Rattle.sv_workload.specs.declared.load.Act.{Act}
-use Rattle.sv_workload.specs.declared.load.Act.TheVariants as acts
-use Rattle.sv_workload.specs.Load.{Load, act_of}
-use Rattle.sv_workload.specs.Need.{need_bytes, act_bytes, replies_in, one_if, is_start_act}
+use Rattle.sv_load.specs.declared.load.Act.{Act}
+use Rattle.sv_load.specs.declared.load.Act.TheVariants as acts
+use Rattle.sv_load.specs.Load.{Load, act_of}
+use Rattle.sv_load.specs.Need.{need_bytes, act_bytes, replies_in, one_if, is_start_act}
 use Rattle.sv_journal.specs.declared.journal.Kind.TheVariants as kinds
 use Rattle.sv_journal.specs.declared.journal.Origin.{Origin}
 use Rattle.sv_journal.specs.declared.journal.Origin.TheVariants.{Call, Sync, Reply, Overflow}
@@ -23,7 +23,7 @@ use Rattle.sv_journal.specs.Open.{IsOpen, IsDue}
 use Rattle.sv_need.specs.Next.{MayCome}
 use Rattle.sv_journal.specs.Stream.{stream_of}
 use Rattle.sv_journal.proofs.Shared.{outcome_at-control, IsOpen-legal}
-use Rattle.sv_workload.specs.Need.{HasShortTexts}
+use Rattle.sv_load.specs.Need.{HasShortTexts}
 use Rattle.sv_need.specs.Weights.{byte_weights, bytes_ahead}
 use Rattle.sv_need.proofs.Groups.{act_most}
 use Rattle.sv_need.proofs.Sizes.{IsPlainSize, IsSized, total, need_of, within, within_due}

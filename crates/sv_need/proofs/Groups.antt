@@ -5,10 +5,10 @@ use Rattle.std.proofs.Common.{◌∙◌, arith}
 use Rattle.std.specs.Option.{option_map_or}
 use Rattle.std.proofs.lemmas.List.Sums.{sum_by-cons}
 use Rattle.sv_packet.specs.declared.event.Event.TheVariants.{Nop}
-use Rattle.sv_workload.specs.declared.load.Act.{Act}
-use Rattle.sv_workload.specs.declared.load.Act.TheVariants as acts
-use Rattle.sv_workload.specs.Load.{Load, act_of}
-use Rattle.sv_workload.specs.Need.{is_start_act, is_stop_act}
+use Rattle.sv_load.specs.declared.load.Act.{Act}
+use Rattle.sv_load.specs.declared.load.Act.TheVariants as acts
+use Rattle.sv_load.specs.Load.{Load, act_of}
+use Rattle.sv_load.specs.Need.{is_start_act, is_stop_act}
 use Rattle.sv_journal.specs.declared.journal.Kind.TheVariants as kinds
 use Rattle.sv_journal.specs.declared.journal.Origin.{Origin}
 use Rattle.sv_journal.specs.declared.journal.Origin.TheVariants.{Call, Sync, Reply, Overflow}

@@ -4,12 +4,12 @@ use Rattle.std.specs.Prelude.{sum_by, All}
 use Rattle.std.proofs.lemmas.Nat.{mul-le}
 use Rattle.std.proofs.lemmas.List.Elements.{All-head, All-tail}
 use Rattle.std.proofs.lemmas.List.Sums.{sum_by-cons}
-use Rattle.sv_workload.specs.declared.load.Act.{Act}
-use Rattle.sv_workload.specs.declared.load.Act.TheVariants as acts
-use Rattle.sv_workload.specs.declared.load.Step.{Step}
-use Rattle.sv_workload.specs.Load.{Load}
-use Rattle.sv_workload.specs.Need.{over_steps, steps_in, starts_in, replies_in, act_bytes}
-use Rattle.sv_workload.specs.Need.{need_items, need_bytes, IsStepAct, IsWithinLimits}
+use Rattle.sv_load.specs.declared.load.Act.{Act}
+use Rattle.sv_load.specs.declared.load.Act.TheVariants as acts
+use Rattle.sv_load.specs.declared.load.Step.{Step}
+use Rattle.sv_load.specs.Load.{Load}
+use Rattle.sv_load.specs.Need.{over_steps, steps_in, starts_in, replies_in, act_bytes}
+use Rattle.sv_load.specs.Need.{need_items, need_bytes, IsStepAct, IsWithinLimits}
 use Rattle.sv_journal.specs.declared.journal.Item.{Item}
 use Rattle.sv_journal.specs.Legal.{IsLegal}
 use Rattle.sv_journal.specs.Stream.{stream_of}

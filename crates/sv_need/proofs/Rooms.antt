@@ -1,14 +1,14 @@
 -- The room that a packet has within its weight, with an overflow before it.
 use Rattle.std.proofs.Common.{◌≡◌, ℕ, ◌+◌, ◌-◌, ◌%◌, ◌≤◌, true, false, cond, length, refl, ap, ◌∙◌}
 use Rattle.std.proofs.Common.{arith}
-use Rattle.sv_workload.specs.Load.{Load, period}
+use Rattle.sv_load.specs.Load.{Load, period}
 use Rattle.sv_journal.specs.declared.journal.Kind.TheVariants as kinds
 use Rattle.sv_journal.specs.declared.journal.Origin.{Origin}
 use Rattle.sv_journal.specs.declared.journal.Origin.TheVariants.{Call, Sync, Reply, Overflow}
 use Rattle.sv_journal.specs.declared.journal.Origin.TheVariants.{Command}
 use Rattle.sv_journal.specs.Legal.{is_control}
 use Rattle.sv_journal.specs.Packets.{packet_block, is_call_or_reply}
-use Rattle.sv_workload.specs.Need.{HasShortTexts}
+use Rattle.sv_load.specs.Need.{HasShortTexts}
 use Rattle.sv_need.specs.Weights.{Weights, plain_weight, weight, item_weights, byte_weights}
 use Rattle.sv_need.proofs.Sizes.{IsPlainSize}
 use Rattle.sv_need.proofs.ByteCounts.{plain_bytes}

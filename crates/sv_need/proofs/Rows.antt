@@ -3,10 +3,10 @@ use Rattle.std.proofs.Common.{ℕ, ◌+◌, ◌*◌, ◌≤◌, List, [], ◌∷
 use Rattle.std.specs.Prelude.{sum_by}
 use Rattle.std.proofs.Math.Nat.{mul-add, add-mul, zero-mul, mul-zero, mul-le-mul_left}
 use Rattle.std.proofs.lemmas.List.Sums.{sum_by-cons}
-use Rattle.sv_workload.specs.declared.load.Act.{Act}
-use Rattle.sv_workload.specs.declared.load.Step.{Step}
-use Rattle.sv_workload.specs.Load.{Load}
-use Rattle.sv_workload.specs.Need.{over_steps, one_if, is_start_act, starts_in}
+use Rattle.sv_load.specs.declared.load.Act.{Act}
+use Rattle.sv_load.specs.declared.load.Step.{Step}
+use Rattle.sv_load.specs.Load.{Load}
+use Rattle.sv_load.specs.Need.{over_steps, one_if, is_start_act, starts_in}
 use Rattle.sv_need.specs.Weights.{Weights}
 use Rattle.sv_need.proofs.Groups.{act_most, group_most}
 use Rattle.sv_need.proofs.Sizes.{need_of}

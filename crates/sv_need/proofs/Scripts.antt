@@ -8,10 +8,10 @@ use Rattle.std.proofs.lemmas.Bool.{eq-eqb, ne_eqb}
 use Rattle.std.proofs.lemmas.Option.{slice_get-get_or}
 use Rattle.std.proofs.lemmas.List.Sums.{sum_by-cons, sum_by-take-le, sum_by_more}
 use Rattle.sv_packet.specs.declared.event.Event.TheVariants.{Nop}
-use Rattle.sv_workload.specs.declared.load.Act.TheVariants as acts
-use Rattle.sv_workload.specs.declared.load.Step.{Step}
-use Rattle.sv_workload.specs.Load.{Load, act_of, script_of}
-use Rattle.sv_workload.specs.Need.{over_steps}
+use Rattle.sv_load.specs.declared.load.Act.TheVariants as acts
+use Rattle.sv_load.specs.declared.load.Step.{Step}
+use Rattle.sv_load.specs.Load.{Load, act_of, script_of}
+use Rattle.sv_load.specs.Need.{over_steps}
 use Rattle.sv_journal.specs.declared.journal.Origin.{Origin}
 use Rattle.sv_journal.specs.declared.journal.Origin.TheVariants.{Call, Sync, Reply, Overflow}
 use Rattle.sv_journal.specs.declared.journal.Origin.TheVariants.{Command}

@@ -7,8 +7,8 @@ use Rattle.std.specs.Option.{option_map_or}
 use Rattle.std.proofs.Math.Nat.{mul-le-mul_right}
 use Rattle.std.proofs.lemmas.List.Sums.{sum_by-cons}
 use Rattle.sv_packet.specs.declared.event.Event.TheVariants.{Nop}
-use Rattle.sv_workload.specs.Load.{Load, act_of}
-use Rattle.sv_workload.specs.Need.{over_steps}
+use Rattle.sv_load.specs.Load.{Load, act_of}
+use Rattle.sv_load.specs.Need.{over_steps}
 use Rattle.sv_journal.specs.declared.journal.Origin.{Origin}
 use Rattle.sv_journal.specs.declared.journal.Origin.TheVariants.{Call, Sync, Reply, Overflow}
 use Rattle.sv_journal.specs.declared.journal.Origin.TheVariants.{Command}

@@ -1,22 +1,22 @@
 -- The ticks of a journal's calls are those of steps of the scripts, each counted once at most.
-use Rattle.std.proofs.Common.{◌≡◌, ℕ, zero, suc, ◌+◌, ◌*◌, ◌^◌, ◌<◌, ◌≤◌, ◌≢◌, cond, Some, List, [], ◌∷◌}
-use Rattle.std.proofs.Common.{length, get_or, refl, sym, ap, subst, ◌∙◌, arith}
+use Rattle.std.proofs.Common.{◌≡◌, ℕ, zero, suc, ◌+◌, ◌*◌, ◌^◌, ◌<◌, ◌≤◌, ◌≢◌, cond, Some, List, []}
+use Rattle.std.proofs.Common.{◌∷◌, length, get_or, refl, sym, ap, subst, ◌∙◌, arith}
 use Rattle.std.specs.Prelude.{sum_by, slice_get, All}
 use Rattle.std.specs.Option.{option_map_or}
 use Rattle.std.proofs.lemmas.Bool.{eq-eqb, ne_eqb}
 use Rattle.std.proofs.lemmas.Option.{slice_get-get_or}
 use Rattle.std.proofs.lemmas.List.Elements.{All-head, All-tail}
 use Rattle.std.proofs.lemmas.List.Sums.{sum_by-cons}
-use Rattle.sv_workload.specs.declared.load.Step.{Step}
-use Rattle.sv_workload.specs.Load.{Load, script_of, step_of}
-use Rattle.sv_workload.specs.Limits.{most_steps, most_ticks}
-use Rattle.sv_workload.specs.Need.{over_steps, steps_in, IsWithinLimits}
+use Rattle.sv_load.specs.declared.load.Step.{Step}
+use Rattle.sv_load.specs.Load.{Load, script_of, step_of}
+use Rattle.sv_load.specs.Limits.{most_steps, most_ticks}
+use Rattle.sv_load.specs.Need.{over_steps, IsWithinLimits}
 use Rattle.sv_journal.specs.declared.journal.Origin.{Origin}
 use Rattle.sv_journal.specs.declared.journal.Origin.TheVariants.{Call, Sync, Reply, Overflow}
 use Rattle.sv_journal.specs.declared.journal.Origin.TheVariants.{Command}
 use Rattle.sv_journal.specs.declared.journal.Item.{Item}
 use Rattle.sv_journal.specs.Items.{latest_first, is_call_of}
-use Rattle.sv_journal.specs.Legal.{EachItem, IsNextItem, IsNextStep, ticks_of}
+use Rattle.sv_journal.specs.Legal.{EachItem, IsNextItem, IsNextStep, step_ticks}
 use Rattle.sv_journal.specs.Clock.{clock_of}
 use Rattle.sv_journal.specs.Open.{IsOpen}
 use Rattle.sv_need.proofs.Scripts.{spent, spent-same, spent-more, spent-most, calls_at, one_call}
@@ -36,7 +36,7 @@ none-called load counts = spent-same advance load.scripts (λ v. 0 + counts v) c
 
 -- one more
 ticks-more : (load : Load) (earlier : List Item) (origin : Origin) → IsNextStep load earlier origin
-    → ticks_of load origin + ticks_spent load (calls_at earlier) ≤ ticks_spent load
+    → step_ticks load origin + ticks_spent load (calls_at earlier) ≤ ticks_spent load
     (λ v. one_call origin v + calls_at earlier v)
 ticks-more load earlier (Call writer step) next =
     let script = script_of load writer in
@@ -45,7 +45,7 @@ ticks-more load earlier (Call writer step) next =
     subst (λ n. n < length script) at next.1 in
     let found : step_of load writer step ≡ Some (get_or script (calls_at earlier writer) no_step) =
     ap (slice_get script) at ∙ slice_get-get_or script (calls_at earlier writer) no_step below in
-    let here : ticks_of load (Call writer step) ≡ (get_or script (calls_at earlier writer)
+    let here : step_ticks load (Call writer step) ≡ (get_or script (calls_at earlier writer)
     no_step).advance = ap (λ s. option_map_or advance s 0) found in
     let one : one_call (Call writer step) writer + calls_at earlier writer ≡ calls_at earlier writer
     + 1 = omega (arith, ap {B = ℕ} (λ b. cond b 1 0) (eq-eqb writer writer refl)) in
@@ -65,14 +65,14 @@ ticks-more load earlier (Command byte param) next =
     omega (arith, none-called load (calls_at earlier))
 
 ticks_so_far : (load : Load) (earlier : List Item) → EachItem (IsNextItem load) earlier
-    → sum_by (λ i. ticks_of load i.origin) earlier ≤ ticks_spent load (calls_at earlier)
+    → sum_by (λ i. step_ticks load i.origin) earlier ≤ ticks_spent load (calls_at earlier)
 ticks_so_far load [] each = omega arith
 ticks_so_far load (i ∷ earlier) each =
     let counts : (v : ℕ) → one_call i.origin v + calls_at earlier v ≡ calls_at (i ∷ earlier) v =
     λ v. sym (sum_by-cons (λ (j : Item). cond (is_call_of v j.origin) 1 0) i earlier) in
     omega (
       arith,
-      sum_by-cons (λ (j : Item). ticks_of load j.origin) i earlier,
+      sum_by-cons (λ (j : Item). step_ticks load j.origin) i earlier,
       ticks_so_far load earlier each.0,
       ticks-more load earlier i.origin each.1.step,
       spent-same advance load.scripts (λ v. one_call i.origin v + calls_at earlier v)
@@ -102,7 +102,7 @@ all_ticks load s =
 -- the moment of the next step
 pub ticks_next : (load : Load) (items : List Item) (owed : List Origin) (next : Origin)
     → IsOpen load items owed → IsNextStep load (latest_first items) next → IsWithinLimits load
-    → clock_of load items + ticks_of load next ≤ 2 ^ 53
+    → clock_of load items + step_ticks load next ≤ 2 ^ 53
 ticks_next load items owed next journal step limits = omega (
   arith,
   ticks_so_far load (latest_first items) journal.each,

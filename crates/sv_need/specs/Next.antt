@@ -1,6 +1,6 @@
 -- What may come next in a journal.
 use Rattle.std.specs.Prelude.{◌≡◌, ◌<◌, true, List, length, count_by}
-use Rattle.sv_workload.specs.Load.{Load}
+use Rattle.sv_load.specs.Load.{Load}
 use Rattle.sv_journal.specs.declared.journal.Origin.{Origin}
 use Rattle.sv_journal.specs.declared.journal.Item.{Item}
 use Rattle.sv_journal.specs.Items.{latest_first, is_command}

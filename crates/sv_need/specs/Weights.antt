@@ -5,7 +5,7 @@ use Rattle.std.specs.Option.{option_map_or}
 use Rattle.sv_packet.specs.declared.event.Event.{Event}
 use Rattle.sv_packet.specs.declared.event.Event.TheVariants.{Nop}
 use Rattle.sv_packet.specs.Spelling.{spelling_of}
-use Rattle.sv_workload.specs.Load.{Load, act_of}
+use Rattle.sv_load.specs.Load.{Load, act_of}
 use Rattle.sv_journal.specs.declared.journal.Kind.{Kind}
 use Rattle.sv_journal.specs.declared.journal.Kind.TheVariants as kinds
 use Rattle.sv_journal.specs.declared.journal.Origin.{Origin}

@@ -1,18 +1,18 @@
 ghost use Rattle.std.specs.Prelude.{◌≡◌, ℕ, ◌+◌, ◌^◌, ◌<◌, ◌≤◌, true, false, List, ◌∷◌, length};
 ghost use Rattle.sv_packet.specs.declared.event.Event.TheVariants.{Overflow};
 ghost use Rattle.sv_packet.specs.Spelling.{spelling_of};
-ghost use Rattle.sv_workload.specs.Load.{Load};
-ghost use Rattle.sv_workload.specs.Need.{need_items, need_bytes, IsWithinLimits, HasShortTexts};
+ghost use Rattle.sv_load.specs.Load.{Load};
+ghost use Rattle.sv_load.specs.Need.{need_items, need_bytes, IsWithinLimits, HasShortTexts};
 ghost use Rattle.sv_journal.specs.declared.journal.Item.{Item};
 ghost use Rattle.sv_journal.specs.declared.journal.Origin.{Origin};
 ghost use Rattle.sv_journal.specs.Clock.{clock_of};
 ghost use Rattle.sv_journal.specs.Items.{latest_first};
-ghost use Rattle.sv_journal.specs.Legal.{IsLegal, IsNextStep, is_control, ticks_of};
+ghost use Rattle.sv_journal.specs.Legal.{IsLegal, IsNextStep, is_control, step_ticks};
 ghost use Rattle.sv_journal.specs.Open.{IsOpen, IsDue};
 ghost use Rattle.sv_journal.specs.Stream.{stream_of};
 ghost use Rattle.sv_journal.specs.Packets.{packet_block, is_call_or_reply};
-ghost use Rattle.sv_need.specs.Weights.{weight, item_weights, byte_weights};
-ghost use Rattle.sv_need.specs.Weights.{items_ahead, bytes_ahead};
+ghost use Rattle.sv_need.specs.Weights.{weight, item_weights, byte_weights, items_ahead};
+ghost use Rattle.sv_need.specs.Weights.{bytes_ahead};
 ghost use Rattle.sv_need.specs.Next.{MayCome};
 
 /// The law of need: a legal journal has at most as many items, and its stream at most as many
@@ -56,5 +56,5 @@ pub fn packet_room()
 pub fn ticks_ahead()
     ensures { (load : Load) → (items : List Item) → (owed : List Origin) → (next : Origin) →
         IsOpen load items owed → IsNextStep load (latest_first items) next →
-        IsWithinLimits load → clock_of load items + ticks_of load next ≤ 2 ^ 53 }
+        IsWithinLimits load → clock_of load items + step_ticks load next ≤ 2 ^ 53 }
 {}

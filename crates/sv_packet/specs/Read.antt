@@ -12,7 +12,7 @@ use Rattle.sv_packet.specs.Packet.{IsPacket}
 use Rattle.sv_packet.specs.Shape.{number_count}
 use Rattle.sv_packet.specs.Made.{IsMade, IsEventOf}
 use Rattle.sv_packet.specs.Reason.{packet_reason}
-use Rattle.sv_packet.specs.Reader.{Takes, Stops, numbers_in}
+use Rattle.sv_packet.specs.Reader.{TakesPart, Stops, numbers_in}
 
 -- the parts tell the event
 abbrev pub IsToldBy : Parts → Event → Type 0
@@ -26,7 +26,7 @@ pub record TakesParts (old new : Reader) (parts : Parts) : Type 0 where
   pub known : parts.id ≢ 23
   pub fits : parts.id ≤ 16383
   pub packet : (event : Event) → IsToldBy parts event →
-      Takes IsPacket old new (record { event = event; delta = parts.delta })
+      TakesPart IsPacket old new (record { event = event; delta = parts.delta })
 
 abbrev pub ReadsParts : Reader → Reader → Result Parts Stop → Type 0
 ReadsParts old new (Ok parts) = TakesParts old new parts

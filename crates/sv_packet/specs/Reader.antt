@@ -12,7 +12,7 @@ abbrev pub left : Reader → List ℕ
 left reader = drop reader.at reader.bytes.now
 
 -- the reader took a spelling of the value
-pub record Takes {V : Type 0} (S : V → List ℕ → Type 0) (old new : Reader) (value : V) :
+pub record TakesPart {V : Type 0} (S : V → List ℕ → Type 0) (old new : Reader) (value : V) :
     Type 0 where
   pub used : ℕ
   pub same : new.bytes.now ≡ old.bytes.now
@@ -28,15 +28,15 @@ Stops S why old (Bad place reason) =
     why (take ahead (left old)) reason
 
 -- what a read answers
-abbrev pub Reads : {V : Type 0} → (V → List ℕ → Type 0) → (List ℕ → Reason → Type 0) → Reader →
+abbrev pub ReadsPart : {V : Type 0} → (V → List ℕ → Type 0) → (List ℕ → Reason → Type 0) → Reader →
     Reader → Result V Stop → Type 0
-Reads S why old new (Ok value) = Takes S old new value
-Reads S why old new (Err stop) = Stops S why old stop
+ReadsPart S why old new (Ok value) = TakesPart S old new value
+ReadsPart S why old new (Err stop) = Stops S why old stop
 
 -- the same where the answer stands for the value
 abbrev pub ReadsAs : {R V : Type 0} → (R → V) → (V → List ℕ → Type 0) → (List ℕ → Reason → Type 0) →
     Reader → Reader → Result R Stop → Type 0
-ReadsAs as_value S why old new (Ok answer) = Takes S old new (as_value answer)
+ReadsAs as_value S why old new (Ok answer) = TakesPart S old new (as_value answer)
 ReadsAs as_value S why old new (Err stop) = Stops S why old stop
 
 -- the first of four numbers

@@ -35,10 +35,3 @@ pub use measuring::spelled_len;
 pub use numbers_ref::NumbersRef;
 pub use recording::recordable;
 pub use spelling::spell;
-
-#[cfg(test)]
-mod decoding_tests;
-#[cfg(test)]
-mod length_tests;
-#[cfg(test)]
-mod tests;

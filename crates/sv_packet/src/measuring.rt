@@ -42,7 +42,7 @@ fn print_len(text: &[u8], options: u32, args: &[u32]) -> usize
 
 /// The identifier of a valid event, and how many bytes its payload has.
 #[inline(always)]
-#[tactic(auto, using(crate::proofs::Lengths::appended))]
+#[tactic(auto, using(crate::proofs::how_long::Lengths::appended))]
 fn payload_len(event: &Event) -> (u16, usize)
     requires { IsValid event.now }
     ensures id { result.0 ≡ identifier event.now }

@@ -82,12 +82,12 @@ impl<'a> Reader<'a> {
     ghost use Rattle.sv_packet.specs.Packet.{IsShortNumber};
     ghost use Rattle.sv_packet.specs.Parts.{IsIdentifier, AreNumbers, IsTextIf, IsOfSize};
     ghost use Rattle.sv_packet.specs.Reason.{Never};
-    ghost use Rattle.sv_packet.specs.Reader.{Reads, ReadsAs, numbers_in};
+    ghost use Rattle.sv_packet.specs.Reader.{ReadsPart, ReadsAs, numbers_in};
 
     /// The next number.
     #[inline(always)]
     pub fn number(&mut self) -> Result<u32, Stop>
-        ensures { Reads IsNumber number_reason self.old self.new result }
+        ensures { ReadsPart IsNumber number_reason self.old self.new result }
     {
         match get_u32(&self.bytes[self.at..]) {
             Got::Value { value, used } => {
@@ -179,7 +179,7 @@ impl<'a> Reader<'a> {
     /// The next identifier or length.
     #[inline(always)]
     fn short(&mut self, reason: Reason) -> Result<u16, Stop>
-        ensures { Reads IsShortNumber (Always reason) self.old self.new result }
+        ensures { ReadsPart IsShortNumber (Always reason) self.old self.new result }
     {
         match get_short(&self.bytes[self.at..], reason) {
             Got::Value { value, used } => {
@@ -197,7 +197,7 @@ impl<'a> Reader<'a> {
     /// The next length of a payload, in bytes.
     #[inline(always)]
     pub fn length(&mut self) -> Result<u16, Stop>
-        ensures { Reads IsShortNumber (Always Reason.BadLength) self.old self.new result }
+        ensures { ReadsPart IsShortNumber (Always Reason.BadLength) self.old self.new result }
     {
         self.short(Reason::BadLength)
     }
@@ -205,7 +205,7 @@ impl<'a> Reader<'a> {
     /// The next identifier. 23 is none, so it is refused at its byte.
     #[inline(always)]
     pub fn identifier(&mut self) -> Result<u16, Stop>
-        ensures { Reads IsIdentifier (Always Reason.BadId) self.old self.new result }
+        ensures { ReadsPart IsIdentifier (Always Reason.BadId) self.old self.new result }
     {
         let place = self.at;
         let id = self.short(Reason::BadId)?;

@@ -1,6 +1,6 @@
 -- What a section says of its step.
 use Rattle.std.specs.Prelude.{◌≡◌, ◌⊎◌, true, false, List, ◌∷◌, ◌++◌}
-use Rattle.sv_workload.specs.Load.{Load}
+use Rattle.sv_load.specs.Load.{Load}
 use Rattle.sv_recorder.specs.declared.answer.Answer.{Answer}
 use Rattle.sv_recorder.specs.declared.answer.Answer.TheVariants as answers
 use Rattle.sv_journal.specs.declared.journal.Origin.{Origin}

@@ -1,7 +1,8 @@
 -- What a section asks of the host.
-use Rattle.std.specs.Prelude.{◌≡◌, ℕ, ◌<◌, ◌≤◌, List, [], ◌++◌, Option, None, IfSome, length, count_by}
-use Rattle.sv_ring.specs.Looks.{Rose}
-use Rattle.sv_workload.specs.declared.load.Command.{Command}
+use Rattle.std.specs.Prelude.{◌≡◌, ℕ, ◌<◌, ◌≤◌, List, [], ◌++◌, Option, None, IfSome, length}
+use Rattle.std.specs.Prelude.{count_by}
+use Rattle.sv_prim.specs.Counts.{Rose}
+use Rattle.sv_load.specs.declared.load.Command.{Command}
 use Rattle.sv_journal.specs.Items.{is_command}
 use Rattle.sv_recorder.specs.Commands.{found_bytes, HasParam}
 use Rattle.sv_recorder.specs.Recording.{Recording}
@@ -19,9 +20,9 @@ pub record IsEmptied (old new : Recording) : Type 0 where
   pub all : IfSome new.asked (λ asked. new.answered ≡ asked)
 
 -- what a section that found this command took: its bytes, after the one that waited, and no more;
--- where it found none, up to the one that waits now. It asks exactly while the journal has fewer commands than the workload, and where
--- it then finds none, there was none
-pub record IsAsked (old new : Recording) (found : Option Command) : Type 0 where
+-- where it found none, up to the one that waits now. It asks exactly while the journal has fewer
+-- commands than the workload, and where it then finds none, there was none
+pub record HasAsked (old new : Recording) (found : Option Command) : Type 0 where
   pub taken : List ℕ
   pub answered : new.answered ≡ old.answered ++ taken
   pub bytes : old.kept ++ taken ≡ found_bytes found ++ new.kept

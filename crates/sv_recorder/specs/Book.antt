@@ -4,20 +4,20 @@ use Rattle.std.specs.Prelude.{filter, vec_capacity, if◌then◌else◌}
 use Rattle.sv_ring.specs.declared.up_writer.UpWriter.{Ghosts}
 use Rattle.sv_journal.specs.declared.journal.Origin.{Origin}
 use Rattle.sv_journal.specs.declared.journal.Item.{Item}
-use Rattle.sv_recorder.specs.declared.book.Book.{Book}
 use Rattle.sv_journal.specs.declared.journal.Outcome.{Outcome}
+use Rattle.sv_journal.specs.Items.{latest_first, last_moment, is_after_refused_overflow}
+use Rattle.sv_journal.specs.Stream.{stream_of}
+use Rattle.sv_journal.specs.Legal.{is_head, origins_of}
+use Rattle.sv_recorder.specs.declared.book.Book.{Book}
 use Rattle.sv_recorder.specs.Answer.{Gains}
 use Rattle.sv_recorder.specs.Formed.{packet_bytes}
 use Rattle.sv_recorder.specs.Freed.{AreFreed}
-use Rattle.sv_journal.specs.Items.{latest_first, last_moment, is_after_refused_overflow}
 use Rattle.sv_recorder.specs.Kept.{Keeps}
-use Rattle.sv_journal.specs.Stream.{stream_of}
-use Rattle.sv_journal.specs.Legal.{is_head, origins_of}
 use Rattle.sv_recorder.specs.Writes.{IsPacketHere}
 
 -- the book keeps a journal that owes these answers
-abbrev pub Holds : {U : Type 0} {u : Ghosts U} → Book U u → List Origin → Type 0
-Holds {U} {u} book owed = Keeps book.load.now book.journal.items owed (u.sent book.up)
+abbrev pub HoldsOwing : {U : Type 0} {u : Ghosts U} → Book U u → List Origin → Type 0
+HoldsOwing {U} {u} book owed = Keeps book.load.now book.journal.items owed (u.sent book.up)
     (u.freed book.up) book.on book.pending book.last
 
 -- the same, where the recorder is on or off otherwise than the book says
@@ -77,7 +77,7 @@ pub record Advances {U : Type 0} {u : Ghosts U} (ticks : ℕ) (old new : Book U 
 
 -- from one state to a later one: these heads of groups, at most so many items and bytes more, and
 -- the rest as before
-pub record Goes {U : Type 0} {u : Ghosts U}
+pub record GoesWith {U : Type 0} {u : Ghosts U}
     (heads : List Origin) (items bytes : ℕ) (old new : Book U u) : Type 0 where
   pub load : new.load.now ≡ old.load.now
   pub moment : new.moment ≡ old.moment
@@ -99,7 +99,7 @@ pub record Goes {U : Type 0} {u : Ghosts U}
 -- a packet of this origin is recorded, and this is what became of it
 pub record Records {U : Type 0} {u : Ghosts U}
     (origin : Origin) (outcome : Outcome) (old new : Book U u) : Type 0 where
-  pub goes : Goes (head_if origin) 2 (packet_bytes old.load.now origin) old new
+  pub goes : GoesWith (head_if origin) 2 (packet_bytes old.load.now origin) old new
   pub on : new.on ≡ old.on
   pub item : Gains old.journal.items new.journal.items origin outcome
 
@@ -107,6 +107,6 @@ pub record Records {U : Type 0} {u : Ghosts U}
 abbrev pub KeepsPacket : {U : Type 0} {u : Ghosts U}
     → Bool → Origin → Book U u → Book U u → Type 0
 KeepsPacket {U} {u} on origin old new =
-    (owed rest : List Origin) → Holds old owed
+    (owed rest : List Origin) → HoldsOwing old owed
     → IsPacketHere old.load.now old.journal.items owed origin old.moment rest
     → HoldsAs on new rest

@@ -2,8 +2,8 @@
 use Rattle.std.specs.Prelude.{◌≡◌, ℕ, ◌<◌, ◌≤◌, nat_lt, List, [], ◌∷◌, ◌++◌, Option, Some, None}
 use Rattle.std.specs.Prelude.{flat_map, IfSome, ◌⊎◌, if◌then◌else◌}
 use Rattle.sv_ring.specs.Down.{given, IsFront}
-use Rattle.sv_ring.specs.Looks.{Rose}
-use Rattle.sv_workload.specs.declared.load.Command.{Command}
+use Rattle.sv_prim.specs.Counts.{Rose}
+use Rattle.sv_load.specs.declared.load.Command.{Command}
 use Rattle.sv_journal.specs.declared.journal.Item.{Item}
 use Rattle.sv_journal.specs.Legal.{commands_in}
 use Rattle.sv_recorder.specs.declared.inbox.Inbox.{Inbox}
@@ -19,13 +19,13 @@ found_bytes None = []
 found_bytes (Some command) = command_bytes command
 
 -- the bytes of the commands in a journal
-abbrev pub bytes_in : List Item → List ℕ
-bytes_in items = flat_map command_bytes (commands_in items)
+abbrev pub command_bytes_in : List Item → List ℕ
+command_bytes_in items = flat_map command_bytes (commands_in items)
 
 -- no byte waits, or the first byte of a command whose parameter is not there yet
-abbrev pub IsWaiting : List ℕ → Type 0
-IsWaiting [] = Unit {0}
-IsWaiting (byte ∷ more) = (128 ≤ byte) × (more ≡ [])
+abbrev pub MayWait : List ℕ → Type 0
+MayWait [] = Unit {0}
+MayWait (byte ∷ more) = (128 ≤ byte) × (more ≡ [])
 
 -- below 128 a command has the parameter 0
 abbrev pub HasParam : Command → Type 0
@@ -33,7 +33,8 @@ HasParam command = command.byte < 128 → command.param ≡ 0
 
 -- the first byte of a command was looked for, and this one was found: the one that waited, or else
 -- the next of the ring. Where none was found, the ring gave no byte
-pub record Begins {D : Type 0} (ring : D → List (List ℕ)) (answered : D → List ℕ) (empties : D → ℕ)
+pub record TakesFirstByte {D : Type 0} (ring : D → List (List ℕ)) (answered : D
+    → List ℕ) (empties : D → ℕ)
     (asked : D → Option (List ℕ)) (old new : Inbox D) (found : Option ℕ) : Type 0 where
   pub ring_same : ring new.down ≡ ring old.down
   pub asked_same : asked new.down ≡ asked old.down
@@ -51,7 +52,8 @@ pub record Begins {D : Type 0} (ring : D → List (List ℕ)) (answered : D → 
 -- the ring was asked for a command, and this one was found: what waited and was taken are its bytes
 -- and what waits now, which is nothing where one was found. Where none was, the last call of the
 -- ring gave no byte
-pub record Takes {D : Type 0} (ring : D → List (List ℕ)) (answered : D → List ℕ) (empties : D → ℕ)
+pub record TakesCommand {D : Type 0} (ring : D → List (List ℕ)) (answered : D
+    → List ℕ) (empties : D → ℕ)
     (asked : D → Option (List ℕ)) (old new : Inbox D) (found : Option Command) : Type 0 where
   pub ring_same : ring new.down ≡ ring old.down
   pub asked_same : asked new.down ≡ asked old.down
@@ -62,7 +64,7 @@ pub record Takes {D : Type 0} (ring : D → List (List ℕ)) (answered : D → L
   pub alone : IfSome found (λ command. given new.kept ≡ [])
   pub front : IfSome (asked old.down) (IsFront (answered old.down)) →
       IfSome (asked new.down) (IsFront (answered new.down))
-  pub waits : IsWaiting (given new.kept)
+  pub waits : MayWait (given new.kept)
   pub none : found ≡ None → Rose (empties old.down) (empties new.down)
       × IfSome (asked new.down) (λ bytes. answered new.down ≡ bytes)
 
@@ -71,4 +73,4 @@ abbrev pub Asks : {D : Type 0} → (D → List (List ℕ)) → (D → List ℕ) 
     → (D → Option (List ℕ)) → ℕ → Inbox D → Inbox D → Option Command → Type 0
 Asks {D} ring answered empties asked most old new found =
     ((most ≤ old.count) × (found ≡ None) × (new ≡ old))
-    ⊎ ((old.count < most) × Takes ring answered empties asked old new found)
+    ⊎ ((old.count < most) × TakesCommand ring answered empties asked old new found)

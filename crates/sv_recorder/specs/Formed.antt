@@ -2,8 +2,8 @@
 use Rattle.std.specs.Prelude.{◌≡◌, ℕ, ◌-◌, ◌<◌, Some, length}
 use Rattle.sv_packet.specs.declared.event.Event.{Event}
 use Rattle.sv_packet.specs.Spelling.{IsRecordable}
-use Rattle.sv_workload.specs.declared.load.Act.TheVariants as acts
-use Rattle.sv_workload.specs.Load.{Load, act_of}
+use Rattle.sv_load.specs.declared.load.Act.TheVariants as acts
+use Rattle.sv_load.specs.Load.{Load, act_of}
 use Rattle.sv_journal.specs.declared.journal.Kind.{Kind}
 use Rattle.sv_journal.specs.declared.journal.Kind.TheVariants as kinds
 use Rattle.sv_journal.specs.declared.journal.Origin.{Origin}

@@ -4,7 +4,7 @@ use Rattle.std.specs.Prelude.{◌≡◌, ℕ, Bool, true, false, List, [], ◌�
 use Rattle.sv_ring.specs.declared.wrote.Wrote.{Wrote}
 use Rattle.sv_ring.specs.declared.wrote.Wrote.TheVariants.{Stored, Refused}
 use Rattle.sv_ring.specs.Ring.{Way, way_after, Moves}
-use Rattle.sv_workload.specs.Load.{Load}
+use Rattle.sv_load.specs.Load.{Load}
 use Rattle.sv_journal.specs.declared.journal.Item.{Item}
 use Rattle.sv_journal.specs.Items.{is_stored, is_written, block_of, stream_before, room_at}
 

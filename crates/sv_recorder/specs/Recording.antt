@@ -3,12 +3,12 @@
 use Rattle.std.specs.Prelude.{◌≡◌, ℕ, ◌<◌, ◌≤◌, Bool, List, [], ◌++◌, length, count_by}
 use Rattle.std.specs.Prelude.{slice_index_or, Option}
 use Rattle.sv_ring.specs.Ring.{Way}
-use Rattle.sv_workload.specs.Load.{Load}
-use Rattle.sv_workload.specs.Need.{IsWithinLimits, need_items, need_bytes}
+use Rattle.sv_load.specs.Load.{Load}
+use Rattle.sv_load.specs.Need.{IsWithinLimits, need_items, need_bytes}
 use Rattle.sv_journal.specs.declared.journal.Item.{Item}
 use Rattle.sv_journal.specs.Items.{is_call_of, is_command}
 use Rattle.sv_journal.specs.Clock.{clock_of}
-use Rattle.sv_recorder.specs.Commands.{bytes_in, IsWaiting}
+use Rattle.sv_recorder.specs.Commands.{command_bytes_in, MayWait}
 use Rattle.sv_recorder.specs.Kept.{Keeps}
 
 pub record Recording : Type 0 where
@@ -50,5 +50,5 @@ pub record IsRecorder (load : Load) (items : List Item) (sent : List ℕ) (freed
 -- are those of the commands in the journal and the one that waits
 pub record IsInbox (items : List Item) (answered kept : List ℕ) (count : ℕ) : Type 0 where
   pub count_is : count ≡ count_by (λ i. is_command i.origin) items
-  pub answered_is : answered ≡ bytes_in items ++ kept
-  pub waits : IsWaiting kept
+  pub answered_is : answered ≡ command_bytes_in items ++ kept
+  pub waits : MayWait kept

@@ -1,14 +1,14 @@
 -- How a recorder gives the answers that a step owes.
 use Rattle.std.specs.Prelude.{◌≡◌, ℕ, List, [], ◌∷◌, ◌++◌, length, nat_lt, if◌then◌else◌}
 use Rattle.sv_ring.specs.declared.up_writer.UpWriter.{Ghosts}
-use Rattle.sv_workload.specs.Load.{Load}
+use Rattle.sv_load.specs.Load.{Load}
 use Rattle.sv_journal.specs.declared.journal.Kind.TheVariants as kinds
 use Rattle.sv_journal.specs.declared.journal.Origin.{Origin}
 use Rattle.sv_journal.specs.declared.journal.Origin.TheVariants.{Reply}
 use Rattle.sv_journal.specs.Clock.{clock_of}
 use Rattle.sv_need.specs.Weights.{items_ahead, bytes_ahead}
 use Rattle.sv_recorder.specs.declared.book.Book.{Book}
-use Rattle.sv_recorder.specs.Book.{Holds, Goes, IsReady}
+use Rattle.sv_recorder.specs.Book.{HoldsOwing, GoesWith, IsReady}
 
 -- the module of this number, where there is one
 abbrev pub module_replies : Load → ℕ → List Origin
@@ -24,12 +24,12 @@ IsReadyFor {U} {u} os book =
 abbrev pub GoesFor : {U : Type 0} {u : Ghosts U} → List Origin → List Origin → Book U u → Book U u
     → Type 0
 GoesFor {U} {u} heads os old new =
-    Goes heads (items_ahead old.load.now os) (bytes_ahead old.load.now os) old new
+    GoesWith heads (items_ahead old.load.now os) (bytes_ahead old.load.now os) old new
 
 -- these answers, which were owed first, are given
 pub record Gives {U : Type 0} {u : Ghosts U} (os : List Origin) (old now : Book U u) : Type 0 where
-  pub kept : (rest : List Origin) → Holds old (os ++ rest)
-      → old.moment ≡ clock_of old.load.now old.journal.items → Holds now rest
+  pub kept : (rest : List Origin) → HoldsOwing old (os ++ rest)
+      → old.moment ≡ clock_of old.load.now old.journal.items → HoldsOwing now rest
   pub goes : GoesFor [] os old now
   pub on : now.on ≡ old.on
 

@@ -1,37 +1,29 @@
 -- What a write to the ring leaves.
-use Rattle.std.specs.Prelude.{◌≡◌, ℕ, ◌+◌, ◌≤◌, Bool, true, false, List, [], ◌∷◌, ◌++◌}
-use Rattle.std.specs.Prelude.{length, sum_by, nat_lt, if◌then◌else◌}
-use Rattle.sv_workload.specs.Load.{Load}
+use Rattle.std.specs.Prelude.{◌≡◌, ℕ, ◌+◌, ◌≤◌, Bool, true, false, List, [], ◌∷◌, ◌++◌, length}
+use Rattle.std.specs.Prelude.{sum_by, nat_lt, if◌then◌else◌}
+use Rattle.sv_load.specs.Load.{Load}
 use Rattle.sv_journal.specs.declared.journal.Item.{Item}
 use Rattle.sv_journal.specs.declared.journal.Origin.{Origin}
 use Rattle.sv_journal.specs.declared.journal.Outcome.{Outcome}
 use Rattle.sv_journal.specs.declared.journal.Outcome.TheVariants as outcomes
-use Rattle.sv_recorder.specs.Formed.{IsFormed}
-use Rattle.sv_journal.specs.Items.{latest_first}
+use Rattle.sv_journal.specs.Items.{latest_first, item_of}
 use Rattle.sv_journal.specs.Packets.{is_call_or_reply}
-use Rattle.sv_journal.specs.Legal.{is_control, IsNextStep, ticks_of}
+use Rattle.sv_journal.specs.Legal.{is_control, IsNextStep, step_ticks}
 use Rattle.sv_journal.specs.Open.{IsDue}
+use Rattle.sv_recorder.specs.Formed.{IsFormed}
 use Rattle.sv_recorder.specs.Freed.{wrote_if}
 use Rattle.sv_ring.specs.Ring.{Way, way_after, room_of, Moves}
 
+-- what became of a block that is stored or not
 abbrev pub outcome_if : Bool → Outcome
 outcome_if true = outcomes.Stored
 outcome_if false = outcomes.Refused
 
-abbrev pub made : Origin → ℕ → ℕ → Outcome → Item
-made origin moment freed outcome = record {
-  origin = origin;
-  moment = moment;
-  freed =
-      freed;
-  outcome = outcome;
-}
-
 -- the journal has gained one item, and the ring its block where there was room
-pub record Writes (size : ℕ) (items after : List Item) (sent sent_after : List ℕ)
+pub record WritesItem (size : ℕ) (items after : List Item) (sent sent_after : List ℕ)
     (freed freed_after : ℕ) (origin : Origin) (moment : ℕ) (block : List ℕ) (stored : Bool) : Type 0
   where
-    pub item : after ≡ items ++ made origin moment freed_after (outcome_if stored) ∷ []
+    pub item : after ≡ items ++ item_of origin moment freed_after (outcome_if stored) ∷ []
     pub decided : stored ≡ (if nat_lt (room_of size sent freed_after) (length block) then false else
         true)
     pub grown : sent_after ≡ sent ++ (if stored then block else [])
@@ -53,7 +45,7 @@ pub record IsPacketHere (load : Load) (items : List Item) (owed : List Origin) (
   pub control : is_control load origin ≡ false
   pub due : IsDue load owed origin rest
   pub step : IsNextStep load (latest_first items) origin
-  pub ticks : moment ≡ ticks_of load origin + sum_by (λ i. ticks_of load i.origin)
+  pub ticks : moment ≡ step_ticks load origin + sum_by (λ i. step_ticks load i.origin)
       (latest_first items)
 
 -- a call of an event, or a reply, whose packet can be formed

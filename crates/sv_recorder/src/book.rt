@@ -2,12 +2,13 @@
 ghost use Rattle.std.specs.Prelude.{◌≡◌, ℕ, ◌+◌, ◌^◌, ◌<◌, ◌≤◌, ◌++◌, [], ◌∷◌, true, false, nat_lt};
 ghost use Rattle.std.specs.Prelude.{if◌then◌else◌, List, length, vec_capacity};
 ghost use Rattle.sv_ring.specs.Ring.{room_of};
-ghost use Rattle.sv_workload.specs.Need.{HasShortTexts};
-ghost use Rattle.sv_recorder.specs.Writes.{Writes, MovesBy, made, outcome_if};
+ghost use Rattle.sv_load.specs.Need.{HasShortTexts};
+ghost use Rattle.sv_recorder.specs.Writes.{WritesItem, MovesBy, outcome_if};
+ghost use Rattle.sv_journal.specs.Items.{item_of};
 
 use sv_journal::{Item, Journal, Origin, Outcome};
+use sv_load::Workload;
 use sv_ring::{UpWriter, Wrote};
-use sv_workload::Workload;
 
 /// A journal and the ring that its stored blocks go to, with three values that spare a look back:
 /// whether the recorder is on, how many packets are pending since the last stored overflow, and the
@@ -76,7 +77,7 @@ impl<'w, U: UpWriter + Drop> Book<'w, U> {
     pub fn note(&mut self, origin: Origin, outcome: Outcome)
         requires room { length self.old.journal.items < vec_capacity self.old.journal }
         ensures item { self.new.journal.items ≡ self.old.journal.items
-            ++ made origin self.old.moment (U.freed self.old.up) outcome ∷ [] }
+            ++ item_of origin self.old.moment (U.freed self.old.up) outcome ∷ [] }
         ensures up { self.new.up ≡ self.old.up }
         ensures stays { Stays self.old self.new }
     {
@@ -95,9 +96,9 @@ impl<'w, U: UpWriter + Drop> Book<'w, U> {
     pub fn write(&mut self, origin: Origin, block: &[u8]) -> bool
         requires some { 0 < length block.now }
         requires ready { IsReady 1 (length block.now) self.old }
-        ensures writes { Writes (U.size self.old.up) self.old.journal.items self.new.journal.items
-            (U.sent self.old.up) (U.sent self.new.up) (U.freed self.old.up) (U.freed self.new.up)
-            origin self.old.moment block.now result }
+        ensures writes { WritesItem (U.size self.old.up) self.old.journal.items
+            self.new.journal.items (U.sent self.old.up) (U.sent self.new.up) (U.freed self.old.up)
+            (U.freed self.new.up) origin self.old.moment block.now result }
         ensures stays { Stays self.old self.new }
         ensures moves { MovesBy U.size U.sent U.freed U.way self.old.up self.new.up block.now
             result }

@@ -3,8 +3,8 @@ ghost use Rattle.std.specs.Prelude.{◌≡◌, ◌+◌, length};
 ghost use Rattle.sv_ring.specs.Down.{given};
 ghost use Rattle.sv_journal.specs.Section.{command_head};
 
+use sv_load::Command;
 use sv_ring::DownReader;
-use sv_workload::Command;
 
 /// The end of the host's ring, with the byte of a command whose parameter is not there yet, and how
 /// many commands came.
@@ -16,12 +16,12 @@ pub struct Inbox<D: DownReader + Drop> {
 }
 
 impl<D: DownReader + Drop> Inbox<D> {
-    ghost use Rattle.sv_recorder.specs.Commands.{Asks, Begins, IsWaiting, Takes};
+    ghost use Rattle.sv_recorder.specs.Commands.{Asks, TakesFirstByte, MayWait, TakesCommand};
 
     /// The first byte of the next command: the one that waits, or else the next of the ring.
     #[inline(always)]
     fn first(&mut self) -> Option<u8>
-        ensures { Begins D.ring D.answered D.empties D.asked self.old self.new result }
+        ensures { TakesFirstByte D.ring D.answered D.empties D.asked self.old self.new result }
     {
         if let Some(byte) = self.kept {
             self.kept = None;
@@ -33,7 +33,7 @@ impl<D: DownReader + Drop> Inbox<D> {
     /// The next command, where all of its bytes are there. From the byte 128 on it has a parameter,
     /// and waits for that.
     fn take(&mut self) -> Option<Command>
-        ensures takes { Takes D.ring D.answered D.empties D.asked self.old self.new result }
+        ensures takes { TakesCommand D.ring D.answered D.empties D.asked self.old self.new result }
         ensures count { self.new.count ≡ self.old.count }
     {
         let byte = self.first()?;
@@ -50,9 +50,9 @@ impl<D: DownReader + Drop> Inbox<D> {
     /// The next command, as long as fewer than so many came.
     #[inline(always)]
     pub fn next(&mut self, most: u32) -> Option<Command>
-        requires waits { IsWaiting (given self.old.kept) }
+        requires waits { MayWait (given self.old.kept) }
         ensures asks { Asks D.ring D.answered D.empties D.asked most self.old self.new result }
-        ensures waits { IsWaiting (given self.new.kept) }
+        ensures waits { MayWait (given self.new.kept) }
         ensures count { self.new.count ≡ self.old.count + length (command_head result) }
     {
         if self.count >= most {

@@ -19,6 +19,3 @@ mod section;
 
 pub use answer::Answer;
 pub use recorder::{Finished, Recorder};
-
-#[cfg(test)]
-mod tests;

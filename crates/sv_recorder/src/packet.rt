@@ -1,7 +1,8 @@
 //! How a packet is formed, and how it is recorded: ignored, written, or written after an overflow.
-ghost use Rattle.std.specs.Prelude.{◌≡◌, ◌^◌, ◌<◌, ◌≤◌, ◌&&◌, [], false, not, length, slice_index_or};
+ghost use Rattle.std.specs.Prelude.{◌≡◌, ◌^◌, ◌<◌, ◌≤◌, ◌&&◌, [], false, not, length};
+ghost use Rattle.std.specs.Prelude.{slice_index_or};
 ghost use Rattle.sv_packet.specs.Spelling.{spelling_of};
-ghost use Rattle.sv_workload.specs.Need.{HasShortTexts};
+ghost use Rattle.sv_load.specs.Need.{HasShortTexts};
 ghost use Rattle.sv_journal.specs.Legal.{is_control};
 ghost use Rattle.sv_recorder.specs.Formed.{IsFormed, IsThere, block_bytes, packet_bytes};
 ghost use Rattle.sv_journal.specs.Items.{event_at, is_stop_reply, reply_event, system_time};
@@ -14,10 +15,10 @@ ghost use Rattle.sv_recorder.specs.Writes.{HasPacket};
 use crate::book::{Book, outcome_of};
 use sv_desc::Describes;
 use sv_journal::{Kind, Origin, Outcome};
+use sv_load::{Act, Workload};
 use sv_packet::{Event, encode, encode_flat};
 use sv_prim::{Buf, delta, shrink};
 use sv_ring::UpWriter;
-use sv_workload::{Act, Workload};
 
 /// The packet of a step's event.
 #[inline(always)]

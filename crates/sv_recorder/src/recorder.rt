@@ -1,21 +1,20 @@
 ghost use Rattle.std.specs.Prelude.{◌≡◌, ℕ, ◌+◌, ◌-◌, ◌<◌, ◌≤◌, ◌↔◌, [], ◌++◌, None, IsNone};
 ghost use Rattle.std.specs.Prelude.{IsSome, IfSome, IfNone, IfOk, count_by, length, min, take};
-ghost use Rattle.std.specs.Prelude.{Option};
-ghost use Rattle.std.specs.Prelude.{drop};
+ghost use Rattle.std.specs.Prelude.{Option, drop};
 ghost use Rattle.std.specs.Option.{option_map};
 ghost use Rattle.sv_ring.specs.Down.{IsFront};
-ghost use Rattle.sv_workload.specs.Load.{script_of};
-ghost use Rattle.sv_workload.specs.Need.{need_bytes};
+ghost use Rattle.sv_load.specs.Load.{script_of};
+ghost use Rattle.sv_load.specs.Need.{need_bytes};
+ghost use Rattle.sv_load.specs.declared.load.Command.{Command};
 ghost use Rattle.sv_recorder.specs.Answer.{IsAnswered};
-ghost use Rattle.sv_recorder.specs.Asked.{IsAsked};
-ghost use Rattle.sv_recorder.specs.Commands.{bytes_in, IsWaiting};
-ghost use Rattle.sv_journal.specs.Clock.{clock_of};
+ghost use Rattle.sv_recorder.specs.Asked.{HasAsked};
+ghost use Rattle.sv_recorder.specs.Commands.{command_bytes_in, MayWait};
 ghost use Rattle.sv_recorder.specs.Freed.{AreFreed};
+ghost use Rattle.sv_journal.specs.Clock.{clock_of};
 ghost use Rattle.sv_journal.specs.Items.{latest_first, is_call_of, is_on, pending_at};
 ghost use Rattle.sv_journal.specs.Legal.{IsLegal};
 ghost use Rattle.sv_journal.specs.Section.{IsSection};
 ghost use Rattle.sv_journal.specs.Stream.{stream_of};
-ghost use Rattle.sv_workload.specs.declared.load.Command.{Command};
 
 use crate::answer::Answer;
 use crate::book::Book;
@@ -24,9 +23,9 @@ use std::alloc::Global;
 use std::marker::Model;
 use sv_desc::Describes;
 use sv_journal::Journal;
+use sv_load::Workload;
 use sv_prim::{Buf, NoMemory};
 use sv_ring::{DownReader, PlainDown, PlainRing, UpWriter};
-use sv_workload::Workload;
 
 /// The target's side of the protocol: it takes the steps of a workload's scripts, forms their
 /// packets, stores them in a ring, does what the host asks, and keeps the history of that as a
@@ -161,8 +160,8 @@ impl<'w, U: UpWriter + Drop, D: DownReader + Drop, P: Describes + Drop> Recorder
         ensures legal { IsLegal self.now.load self.now.items }
         ensures stream { self.now.sent ≡ stream_of self.now.load self.now.items }
         ensures freed { self.now.freed ≤ length self.now.sent }
-        ensures answered { self.now.answered ≡ bytes_in self.now.items ++ self.now.kept }
-        ensures waits { IsWaiting self.now.kept }
+        ensures answered { self.now.answered ≡ command_bytes_in self.now.items ++ self.now.kept }
+        ensures waits { MayWait self.now.kept }
         ensures front { IfSome self.now.asked (IsFront self.now.answered) }
     {
         let _ = &self.book;
@@ -225,7 +224,7 @@ impl<'w, U: UpWriter + Drop, D: DownReader + Drop, P: Describes + Drop> Recorder
             × (s : IsSection self.old.items self.new.items writer found)
             × AreFreed self.old.load (latest_first self.old.items) s.more
             self.old.way self.old.freed self.new.way self.new.freed
-            × IsAsked self.old self.new found) }
+            × HasAsked self.old self.new found) }
 
         // The answer is what became of the call of this step, wherever it stands in what is added.
         ensures answered { IfSome result

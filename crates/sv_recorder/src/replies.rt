@@ -7,9 +7,9 @@ ghost use Rattle.sv_recorder.specs.Formed.{IsThere};
 use crate::book::Book;
 use sv_desc::Describes;
 use sv_journal::{Kind, Origin};
+use sv_load::Command;
 use sv_prim::Buf;
 use sv_ring::UpWriter;
-use sv_workload::Command;
 
 /// What stands before the packets of a start (RTT, synchronisation).
 const ZEROS: [u8; 10] = [0; 10];

@@ -1,8 +1,8 @@
 //! The groups of items: of a step that records an event, of a start, a stop or a command with its
 //! answers.
 ghost use Rattle.std.specs.Prelude.{◌≡◌, [], ◌∷◌, false, true, Some, ◌||◌, IfSome};
-ghost use Rattle.sv_workload.specs.Load.{step_of};
-ghost use Rattle.sv_workload.specs.Need.{IsStepAct};
+ghost use Rattle.sv_load.specs.Load.{step_of};
+ghost use Rattle.sv_load.specs.Need.{IsStepAct};
 ghost use Rattle.sv_journal.specs.Items.{is_start, is_stop};
 ghost use Rattle.sv_journal.specs.Legal.{group_of, is_control};
 ghost use Rattle.sv_recorder.specs.Formed.{IsFormed};
@@ -11,9 +11,9 @@ use crate::answer::Answer;
 use crate::book::Book;
 use sv_desc::Describes;
 use sv_journal::{Kind, Origin, Outcome};
+use sv_load::{Act, Command, Step};
 use sv_prim::Buf;
 use sv_ring::UpWriter;
-use sv_workload::{Act, Command, Step};
 
 impl<'w, U: UpWriter + Drop> Book<'w, U> {
     ghost use Rattle.sv_journal.specs.declared.journal.Origin.TheVariants.{Call};

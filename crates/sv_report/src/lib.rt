@@ -19,6 +19,3 @@ pub use ends::{end_line, reason_number};
 pub use events::event_line;
 pub use report::{put_report, short_text, text};
 pub use spans::span_line;
-
-#[cfg(test)]
-mod tests;

@@ -34,6 +34,3 @@ pub use story::{Log, Story};
 pub use up_reader::UpReader;
 pub use up_writer::UpWriter;
 pub use wrote::Wrote;
-
-#[cfg(test)]
-mod tests;

@@ -15,6 +15,3 @@ pub use dock::RtrbDock;
 pub use down::{RtrbDown, RtrbTarget};
 pub use host::RtrbHost;
 pub use up::RtrbUp;
-
-#[cfg(test)]
-mod tests;

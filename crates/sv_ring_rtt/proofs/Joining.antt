@@ -14,7 +14,7 @@ use Rattle.sv_ring_rtt.specs.declared.view.Reading.{Reading}
 use Rattle.sv_ring_rtt.specs.declared.view.View.{View}
 use Rattle.sv_ring_rtt.specs.declared.view.View.TheVariants.{Both, Writer, Reader, Spent}
 use Rattle.sv_ring_rtt.specs.Rule.{writing_of, reading_of, Flows, Kept, opened, writer_part}
-use Rattle.sv_ring_rtt.specs.Rule.{reader_part, joined}
+use Rattle.sv_ring_rtt.specs.Rule.{reader_part, joined_view}
 use lib.ListN.{get_elem?}
 use Rattle.atomic_table.proofs.Lists.{set_else}
 use Rattle.sv_ring_rtt.proofs.Seats.{both_sits, both_meet}
@@ -60,13 +60,13 @@ join_flows key words w r f = record {
 
 pub joins_allowed : (key : Sizes) (id : ℕ) (v : View) (other : ℕ) (u : View)
     → v ≡ Writer (writing_of v) → u ≡ Reader (reading_of u)
-    → Joins (Kept key) id v other u (joined v u) Spent
+    → Joins (Kept key) id v other u (joined_view v u) Spent
 joins_allowed key id v other u writes reads s k at apart there =
     let w : Writing = writing_of v in
     let r : Reading = reading_of u in
     let x : Reading = record r { seen_sent = length w.sent } in
     let m = both_meet s.views k.w k.r id other w r (at ∙ ap some writes)
-    (sym (set_else s.views id other (joined v u) apart)
+    (sym (set_else s.views id other (joined_view v u) apart)
     ∙ (there ∙ ap some reads)) apart k.sits in record {
       w = w;
       r = x;

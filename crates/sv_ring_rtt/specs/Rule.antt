@@ -117,5 +117,5 @@ writer_part v = Writer (writing_of v)
 abbrev pub reader_part : View → View
 reader_part v = Reader (reading_of v)
 
-abbrev pub joined : View → View → View
-joined v u = Both (writing_of v) (all_seen (writing_of v) (reading_of u))
+abbrev pub joined_view : View → View → View
+joined_view v u = Both (writing_of v) (all_seen (writing_of v) (reading_of u))

@@ -24,6 +24,3 @@ pub use dock::RttDock;
 pub use down::{RttDown, RttTarget};
 pub use host::RttHost;
 pub use up::RttUp;
-
-#[cfg(test)]
-mod tests;

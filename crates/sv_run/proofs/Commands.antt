@@ -1,6 +1,7 @@
 -- The commands of a journal are the first of those that were sent.
 use Rattle.std.proofs.Common.{◌≡◌, ℕ, ◌<◌, ◌≤◌, Bool, true, false, List, [], ◌∷◌, ◌++◌, length}
-use Rattle.std.proofs.Common.{take, drop, All, refl, sym, ap, subst, ◌∙◌, arith, rules, append_assoc}
+use Rattle.std.proofs.Common.{take, drop, All, refl, sym, ap, subst, ◌∙◌, arith, rules}
+use Rattle.std.proofs.Common.{append_assoc}
 use Rattle.std.specs.Prelude.{flat_map, nat_lt, reverse, if◌then◌else◌}
 use Rattle.std.proofs.lemmas.List.{append_cancel_left, reverse-append, reverse-reverse}
 use Rattle.std.proofs.lemmas.List.{take-append-drop}
@@ -8,15 +9,15 @@ use Rattle.std.proofs.lemmas.Grind.{flat_map-append}
 use Rattle.std.proofs.lemmas.List.Elements.{All-head, All-tail, All-nil, All-cons, All-append}
 use Rattle.std.proofs.lemmas.List.Elements.{All-weaker}
 use Rattle.sv_ring.specs.Down.{IsFront}
-use Rattle.sv_workload.specs.declared.load.Command.{Command}
-use Rattle.sv_workload.specs.Load.{Load}
-use Rattle.sv_workload.specs.Need.{IsAsked}
+use Rattle.sv_load.specs.declared.load.Command.{Command}
+use Rattle.sv_load.specs.Load.{Load}
+use Rattle.sv_load.specs.Need.{IsAsked}
 use Rattle.sv_journal.specs.declared.journal.Item.{Item}
 use Rattle.sv_journal.specs.declared.journal.Origin.{Origin}
 use Rattle.sv_journal.specs.declared.journal.Origin.TheVariants as origins
-use Rattle.sv_journal.specs.Legal.{IsLegal, EachItem, IsNextItem, IsCommandInPlace}
-use Rattle.sv_journal.specs.Legal.{command_in, commands_in, AreFirstCommands}
-use Rattle.sv_recorder.specs.Commands.{command_bytes, bytes_in, HasParam}
+use Rattle.sv_journal.specs.Legal.{IsLegal, EachItem, IsNextItem, IsCommandInPlace, command_in}
+use Rattle.sv_journal.specs.Legal.{commands_in, AreFirstCommands}
+use Rattle.sv_recorder.specs.Commands.{command_bytes, command_bytes_in, HasParam}
 use Rattle.sv_core.proofs.Shared.{same_first, some_bytes}
 
 -- bytes that begin with those of some commands are those of no others first
@@ -68,13 +69,13 @@ params_in load (i ∷ earlier) each =
 -- a journal whose commands' bytes are the first that were sent has the first commands
 pub first_commands : (load : Load) (items : List Item) (kept : List ℕ) → IsLegal load items
     → All IsAsked load.commands
-    → IsFront (bytes_in items ++ kept) (flat_map command_bytes load.commands)
+    → IsFront (command_bytes_in items ++ kept) (flat_map command_bytes load.commands)
     → AreFirstCommands load items
 first_commands load items kept legal asked front =
     let all : List ℕ = flat_map command_bytes load.commands in
-    let n : ℕ = length (bytes_in items ++ kept) in
-    let whole : bytes_in items ++ (kept ++ drop n all) ≡ all =
-    sym (append_assoc (bytes_in items) kept (drop n all))
+    let n : ℕ = length (command_bytes_in items ++ kept) in
+    let whole : command_bytes_in items ++ (kept ++ drop n all) ≡ all =
+    sym (append_assoc (command_bytes_in items) kept (drop n all))
     ∙ (ap (λ (l : List ℕ). l ++ drop n all) front ∙ take-append-drop n all) in
     first_of (commands_in items) load.commands (kept ++ drop n all)
     (subst (λ (l : List Item). All HasParam (commands_in l)) (reverse-reverse items)

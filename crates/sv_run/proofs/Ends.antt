@@ -5,8 +5,8 @@ use Rattle.std.specs.Prelude.{flat_map, OnOk}
 use Rattle.sv_ring.specs.Down.{IsFront}
 use Rattle.sv_ring.specs.Docks.{GainsStory}
 use Rattle.sv_ring.specs.declared.story.Story.{Story}
-use Rattle.sv_workload.specs.Load.{Load}
-use Rattle.sv_workload.specs.Need.{IsAsked}
+use Rattle.sv_load.specs.Load.{Load}
+use Rattle.sv_load.specs.Need.{IsAsked}
 use Rattle.sv_journal.specs.declared.journal.Item.{Item}
 use Rattle.sv_journal.specs.Legal.{IsLegal, IsWhole}
 use Rattle.sv_journal.specs.Stream.{stream_of}

@@ -1,8 +1,8 @@
 -- The bytes of the commands that a host sent.
 use Rattle.std.proofs.Common.{◌≡◌, ℕ, ◌+◌, ◌<◌, ◌≤◌, ◌++◌, length, sym, ap, ◌∙◌, add-one}
 use Rattle.std.specs.Prelude.{slice_get, Some}
-use Rattle.sv_workload.specs.declared.load.Command.{Command}
-use Rattle.sv_workload.specs.Load.{Load}
+use Rattle.sv_load.specs.declared.load.Command.{Command}
+use Rattle.sv_load.specs.Load.{Load}
 use Rattle.sv_recorder.specs.Commands.{command_bytes}
 use Rattle.sv_core.specs.Played.{sent_bytes}
 use Rattle.sv_core.proofs.Shared.{bytes_more, bytes_room}

@@ -1,6 +1,6 @@
 -- The host of a run: what it sent, what it took, and what it made of that.
 use Rattle.std.specs.Prelude.{◌≡◌, ℕ, ◌^◌, ◌≤◌, List, length}
-use Rattle.sv_workload.specs.Load.{Load}
+use Rattle.sv_load.specs.Load.{Load}
 use Rattle.sv_core.specs.Played.{sent_bytes}
 use Rattle.sv_analyse.specs.State.{State}
 use Rattle.sv_run.specs.Fed.{IsFed}

@@ -1,10 +1,11 @@
 -- What the type of the value under the lock keeps.
 use Rattle.std.specs.Prelude.{◌≡◌, ℕ, List, [], false}
-use Rattle.sv_workload.specs.Load.{Load}
+use Rattle.sv_load.specs.Load.{Load}
 use Rattle.sv_recorder.specs.Recording.{Recording}
 
 -- the recorder is of this workload and these rings
-pub record IsNamed (load : Load) (up down : List (List ℕ)) (recorder : Recording) : Type 0 where
+pub record IsRecorderOf (load : Load) (up down : List (List ℕ))
+    (recorder : Recording) : Type 0 where
   pub load_is : recorder.load ≡ load
   pub up_is : recorder.ring ≡ up
   pub down_is : recorder.down ≡ down

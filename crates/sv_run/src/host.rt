@@ -10,10 +10,10 @@ use std::alloc::Global;
 use std::marker::Model;
 use sv_analyse::Analyser;
 use sv_base::Gate;
+use sv_load::{Command, Workload};
 use sv_prim::NoMemory;
 use sv_ring::{DownWriter, UpReader};
 use sv_timeline::Span;
-use sv_workload::{Command, Workload};
 
 /// A host: it sends the workload's commands, one in each of its turns, and analyses what it reads.
 #[derive(Drop)]

@@ -13,6 +13,3 @@ mod threads;
 mod whole;
 
 pub use whole::run;
-
-#[cfg(test)]
-mod tests;

@@ -1,7 +1,7 @@
 //! The recorder under its lock.
 ghost use Rattle.std.specs.Prelude.{ℕ, ◌<◌, List, [], length};
-ghost use Rattle.sv_workload.specs.Load.{Load};
-ghost use Rattle.sv_run.specs.Named.{IsNamed, no_load};
+ghost use Rattle.sv_load.specs.Load.{Load};
+ghost use Rattle.sv_run.specs.Named.{IsRecorderOf, no_load};
 
 use std::marker::{Brand, Model, PhantomData};
 use sv_desc::Describes;
@@ -42,13 +42,13 @@ pub(crate) struct Named<
 impl<'w, J: Naming, U: UpWriter + Drop, D: DownReader + Drop, P: Describes + Drop> Model
     for Named<'w, J, U, D, P> {
     ghost use Rattle.sv_recorder.specs.Recording.{Recording};
-    ghost use Rattle.sv_run.specs.Named.{IsNamed};
+    ghost use Rattle.sv_run.specs.Named.{IsRecorderOf};
 
     ghost Value = { Recording };
 
     ghost view = { λ n. n.recorder };
 
-    ghost invariant = { λ n. IsNamed J.load J.up J.down n.recorder };
+    ghost invariant = { λ n. IsRecorderOf J.load J.up J.down n.recorder };
 }
 
 impl<'w, J: Naming, U: UpWriter + Drop, D: DownReader + Drop, P: Describes + Drop> Named<
@@ -59,7 +59,7 @@ impl<'w, J: Naming, U: UpWriter + Drop, D: DownReader + Drop, P: Describes + Dro
     P,
 > {
     pub(crate) fn new(recorder: Recorder<'w, U, D, P>) -> Named<'w, J, U, D, P>
-        requires { IsNamed J.load J.up J.down recorder }
+        requires { IsRecorderOf J.load J.up J.down recorder }
     {
         Named {
             recorder,
@@ -75,7 +75,7 @@ impl<'w, J: Naming, U: UpWriter + Drop, D: DownReader + Drop, P: Describes + Dro
     }
 
     pub(crate) fn into_recorder(self) -> Recorder<'w, U, D, P>
-        ensures { IsNamed J.load J.up J.down result }
+        ensures { IsRecorderOf J.load J.up J.down result }
     {
         self.recorder
     }

@@ -1,8 +1,8 @@
 //! The steps that no thread took.
 ghost use Rattle.std.specs.Prelude.{◌≡◌, ℕ, ◌<◌, true, length, count_by};
-ghost use Rattle.sv_workload.specs.Load.{script_of};
+ghost use Rattle.sv_load.specs.Load.{script_of};
 ghost use Rattle.sv_journal.specs.Items.{is_call_of};
-ghost use Rattle.sv_run.specs.Named.{IsNamed};
+ghost use Rattle.sv_run.specs.Named.{IsRecorderOf};
 ghost use Rattle.sv_run.specs.Ran.{AreThrough};
 
 use std::sync::Wait;

@@ -1,6 +1,6 @@
 //! The threads of a run.
 ghost use Rattle.std.specs.Prelude.{◌≡◌, ℕ, ◌<◌, IfOk, length};
-ghost use Rattle.sv_run.specs.Named.{IsNamed};
+ghost use Rattle.sv_run.specs.Named.{IsRecorderOf};
 ghost use Rattle.sv_run.specs.Hosting.{IsSameHost};
 
 use crate::host::Host;
@@ -11,10 +11,10 @@ use std::thread;
 use std::thread::Threads;
 use sv_base::Gate;
 use sv_desc::Describes;
+use sv_load::Workload;
 use sv_prim::NoMemory;
 use sv_recorder::Recorder;
 use sv_ring::{DownReader, DownWriter, UpReader, UpWriter};
-use sv_workload::Workload;
 
 /// The next step of a writer, under the lock.
 fn step<R: Wait, J: Naming, U: UpWriter + Drop, D: DownReader + Drop, P: Describes + Drop>(
@@ -145,8 +145,8 @@ pub(crate) fn run_named<
     gate: &G,
 ) -> Result<(Recorder<'w, U, D, P>, Host<'w, H, W>), NoMemory>
     requires load { load.now ≡ J.load }
-    requires recorder { IsNamed J.load J.up J.down recorder }
-    ensures recorder { IfOk result (λ r. IsNamed J.load J.up J.down r.0) }
+    requires recorder { IsRecorderOf J.load J.up J.down recorder }
+    ensures recorder { IfOk result (λ r. IsRecorderOf J.load J.up J.down r.0) }
     ensures host { IfOk result (λ r. IsSameHost host.entry r.1) }
 {
     let shared = Mutex::new(Named::<J, U, D, P>::new(recorder));

@@ -1,7 +1,9 @@
 //! A whole run.
-ghost use Rattle.std.specs.Prelude.{◌≡◌, ℕ, ◌+◌, ◌^◌, ◌<◌, ◌≤◌, [], ◌++◌, IfOk, OnOk, OnErr, length};
+ghost use Rattle.std.specs.Prelude.{◌≡◌, ℕ, ◌+◌, ◌^◌, ◌<◌, ◌≤◌, [], ◌++◌, IfOk, OnOk, OnErr};
+ghost use Rattle.std.specs.Prelude.{length};
 ghost use Rattle.sv_journal.specs.Legal.{IsLegal, IsWhole};
 ghost use Rattle.sv_journal.specs.Stream.{stream_of};
+ghost use Rattle.sv_truth.specs.Truth.{TellsTruly};
 ghost use Rattle.sv_run.specs.Fed.{IsFed};
 ghost use Rattle.sv_run.specs.Ran.{AreThrough, HasAnswered, HasStory};
 
@@ -16,11 +18,12 @@ use sv_analyse::Analyser;
 use sv_base::Gate;
 use sv_desc::{Describe, Describes, micros_of, put_line};
 use sv_journal::Journal;
+use sv_load::Workload;
 use sv_need::within_need;
 use sv_prim::{Buf, NoMemory};
 use sv_recorder::{Finished, Recorder};
 use sv_ring::{Dock, DownReader, Ends, UpWriter};
-use sv_workload::Workload;
+use sv_truth::named_truly;
 
 /// What a run gives.
 #[derive(Drop)]
@@ -110,7 +113,8 @@ fn run_with<R: Threads + Wait + Sync, D: Dock, P: Describes + Send + Drop, G: Ga
 /// the commands and the steps that are left are done here.
 ///
 /// `journal` is empty. It gets the history of the run, in the order in which the recorder's lock was
-/// held; after [`NoMemory`] it is empty. The analyser stands for the stream of it.
+/// held; after [`NoMemory`] it is empty. The analyser stands for the stream of it, which names no
+/// context and no wait that is not so by all calls.
 ///
 /// May wait for its threads.
 pub fn run<R: Threads + Wait + Sync, D: Dock, G: Gate>(
@@ -125,10 +129,14 @@ pub fn run<R: Threads + Wait + Sync, D: Dock, G: Gate>(
     ensures legal { OnOk result (IsLegal load.now journal.new.items) }
     ensures whole { OnOk result (IsWhole load.now journal.new.items) }
     ensures fed { IfOk result (λ a. IsFed a (stream_of load.now journal.new.items)) }
+    ensures names { OnOk result (TellsTruly load.now journal.new.items) }
     ensures story { OnOk result
         (HasStory load.now journal.new.items (D.stories dock.old) (D.stories dock.new)) }
     ensures empty { OnErr result (journal.new.items ≡ []) }
 {
+    // What is known of every such stream: it names nothing that is not so.
+    load.writers();
+    named_truly();
     let lines = load.lines();
     let clock = load.clock();
     let desc = Describe::new(

@@ -14,11 +14,12 @@ use std::thread::Threads;
 use sv_base::{FileSource, OpenGate, Source, read_all};
 use sv_core::{frees_small, replay, turns_of};
 use sv_journal::Journal;
+use sv_load::Workload;
 use sv_ring::{Dock, LogDock};
 use sv_ring_rtrb::RtrbDock;
 use sv_ring_rtt::RttDock;
 use sv_run::run;
-use sv_workload::{Workload, parse};
+use sv_workload::parse;
 
 /// The workload of a file.
 fn workload(rt: HostRuntime, name: &str) -> Option<Workload> {

@@ -15,7 +15,7 @@ use Rattle.sv_stream.proofs.Growing.{reads_grown}
 use Rattle.sv_stream.proofs.Once.{reads_once}
 use Rattle.sv_stream.proofs.Packets.{readable}
 use Rattle.sv_stream.proofs.Times.{timed-grown}
-pub use Rattle.sv_stream.proofs.Standing.{stands_first}
+pub use Rattle.sv_stream.proofs.Standing.{stands_first, stands_piece}
 pub use Rattle.sv_prim.proofs.Shared.{bytes_both}
 
 -- bytes have a reading

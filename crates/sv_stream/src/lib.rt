@@ -19,6 +19,3 @@ pub use end::End;
 pub use fault::StreamFault;
 pub use front::Front;
 pub use laws::{given_first, read_on, read_once};
-
-#[cfg(test)]
-mod tests;

@@ -17,7 +17,7 @@ use Rattle.sv_context.specs.Order.{is_same_context}
 use Rattle.sv_timeline.specs.declared.span.Span.{Span}
 use Rattle.sv_timeline.specs.Ticks.{context_at, ticks_of}
 use Rattle.sv_timeline.specs.Timeline.{ticks_in, AreInRow, are_apart, IsTimeline}
-use Rattle.sv_timeline.specs.Runs.{joined, runs_from, timeline_of, ended_runs}
+use Rattle.sv_timeline.specs.Runs.{joined_runs, runs_from, timeline_of, ended_runs}
 use Rattle.sv_timeline.specs.State.{State, StandsFor}
 use Rattle.sv_timeline.proofs.Growing.{AreUpTo}
 use Rattle.sv_timeline.proofs.Once.{timeline_once}
@@ -34,13 +34,13 @@ names spans = map (λ s. s.context) spans
 
 row_by : (same : Bool) (run next : Span) (runs : List Span) (end : ℕ)
     → is_same_context run.context next.context ≡ same → run.start < run.end
-    → AreInRow run.end (next ∷ runs) end → AreInRow run.start (joined run (next ∷ runs)) end
+    → AreInRow run.end (next ∷ runs) end → AreInRow run.start (joined_runs run (next ∷ runs)) end
 row_by true run next runs end test some row =
     rw test (refl, omega (arith, row.0, row.1), row.2)
 row_by false run next runs end test some row = rw test (refl, some, row)
 
 row_joined : (run : Span) (runs : List Span) (end : ℕ) → run.start < run.end
-    → AreInRow run.end runs end → AreInRow run.start (joined run runs) end
+    → AreInRow run.end runs end → AreInRow run.start (joined_runs run runs) end
 row_joined run [] end some row = (refl, some, row)
 row_joined run (next ∷ runs) end some row =
     row_by (is_same_context run.context next.context) run next runs end refl some row
@@ -58,7 +58,7 @@ row_from start (context ∷ contexts) =
 ticks_by : (same : Bool) (run next : Span) (runs : List Span) (end : ℕ)
     → is_same_context run.context next.context ≡ same → run.start < run.end
     → AreInRow run.end (next ∷ runs) end
-    → flat_map ticks_in (joined run (next ∷ runs))
+    → flat_map ticks_in (joined_runs run (next ∷ runs))
     ≡ ticks_in run ++ flat_map ticks_in (next ∷ runs)
 ticks_by true run next runs end test some row =
     let more : next.end - run.start ≡ (run.end - run.start) + (next.end - next.start) =
@@ -75,7 +75,7 @@ ticks_by false run next runs end test some row = rw test refl
 
 ticks_joined : (run : Span) (runs : List Span) (end : ℕ) → run.start < run.end
     → AreInRow run.end runs end
-    → flat_map ticks_in (joined run runs) ≡ ticks_in run ++ flat_map ticks_in runs
+    → flat_map ticks_in (joined_runs run runs) ≡ ticks_in run ++ flat_map ticks_in runs
 ticks_joined run [] end some row = refl
 ticks_joined run (next ∷ runs) end some row =
     ticks_by (is_same_context run.context next.context) run next runs end refl some row
@@ -92,7 +92,7 @@ ticks_from start (context ∷ contexts) =
 
 apart_by : (same : Bool) (run next : Span) (runs : List Span)
     → is_same_context run.context next.context ≡ same → are_apart (names (next ∷ runs)) ≡ true
-    → are_apart (names (joined run (next ∷ runs))) ≡ true
+    → are_apart (names (joined_runs run (next ∷ runs))) ≡ true
 apart_by true run next runs test apart =
     let one : run.context ≡ next.context = same_is run.context next.context test in
     rw test (ap (λ (c : Context). are_apart (c ∷ names runs)) one ∙ apart)
@@ -102,7 +102,7 @@ apart_by false run next runs test apart =
     rw test pairs
 
 apart_joined : (run : Span) (runs : List Span) → are_apart (names runs) ≡ true
-    → are_apart (names (joined run runs)) ≡ true
+    → are_apart (names (joined_runs run runs)) ≡ true
 apart_joined run [] apart = refl
 apart_joined run (next ∷ runs) apart =
     apart_by (is_same_context run.context next.context) run next runs refl apart

@@ -7,9 +7,9 @@ use Rattle.sv_timeline.specs.declared.span.Span.{Span}
 use Rattle.sv_timeline.specs.Ticks.{ticks_of}
 
 -- a run before others: one with the first of them where both have one context
-abbrev pub joined : Span → List Span → List Span
-joined run [] = run ∷ []
-joined run (next ∷ runs) =
+abbrev pub joined_runs : Span → List Span → List Span
+joined_runs run [] = run ∷ []
+joined_runs run (next ∷ runs) =
     if is_same_context run.context next.context
     then record { start = run.start; end = next.end; context = run.context } ∷ runs
     else run ∷ next ∷ runs
@@ -18,7 +18,7 @@ joined run (next ∷ runs) =
 abbrev pub runs_from : ℕ → List Context → List Span
 runs_from start [] = []
 runs_from start (context ∷ contexts) =
-    joined (record { start = start; end = start + 1; context = context })
+    joined_runs (record { start = start; end = start + 1; context = context })
     (runs_from (start + 1) contexts)
 
 -- the longest runs of all ticks before the last event

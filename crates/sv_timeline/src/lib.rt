@@ -13,6 +13,3 @@ mod totals;
 pub use laws::{runs_grow, same_for_events, ticks_stay, timeline_is, timeline_once};
 pub use span::Span;
 pub use timeline::Timeline;
-
-#[cfg(test)]
-mod tests;

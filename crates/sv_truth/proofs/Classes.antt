@@ -4,16 +4,15 @@ use Rattle.std.proofs.Common.{◌∙◌, rules}
 use Rattle.std.specs.Prelude.{option_map, option_to_list}
 use Rattle.sv_packet.specs.declared.event.Event.{Event}
 use Rattle.sv_packet.specs.declared.event.TimedEvent.{TimedEvent}
-use Rattle.sv_workload.specs.Load.{Load}
+use Rattle.sv_load.specs.Load.{Load}
 use Rattle.sv_journal.specs.declared.journal.Origin.{Origin}
 use Rattle.sv_journal.specs.declared.journal.Outcome.TheVariants.{Stored}
 use Rattle.sv_journal.specs.declared.journal.Item.{Item}
 use Rattle.sv_journal.specs.Items.{latest_first, is_stored, is_packet, holds_packet}
 use Rattle.sv_journal.specs.Legal.{EachItem, IsLegal}
 use Rattle.sv_journal.specs.Stream.{events_before}
-use Rattle.sv_core.proofs.Shared.{Fate, IsPlaced, fate, handling, ignoring, placed, refusing}
-use Rattle.sv_core.proofs.Shared.{at_time}
-use Rattle.sv_core.proofs.Shared.{storing}
+use Rattle.sv_sent.proofs.Shared.{Fate, IsPlaced, fate, handling, ignoring, placed, refusing}
+use Rattle.sv_sent.proofs.Shared.{at_time, storing}
 use Rattle.sv_latency.specs.declared.class.Class.{Class}
 use Rattle.sv_latency.specs.declared.class.Class.TheVariants.{Unknown}
 use Rattle.sv_latency.specs.Class.{class_of}

@@ -4,15 +4,15 @@ use Rattle.std.proofs.Common.{◌≡◌, ℕ, Bool, true, false, ◌&&◌, ◌||
 use Rattle.std.proofs.Common.{ap, subst, ◌∙◌, arith, ◌⊎◌, inl, inr}
 use Rattle.std.specs.Prelude.{nat_lt}
 use Rattle.std.proofs.lemmas.Bool.Decides.{nat_tests}
-use Rattle.sv_workload.specs.Load.{Load}
+use Rattle.sv_load.specs.Load.{Load}
 use Rattle.sv_journal.specs.declared.journal.Item.{Item}
 use Rattle.sv_journal.specs.Items.{is_overflow, is_stored, is_refused, is_packet, is_on, pending_at}
 use Rattle.sv_journal.specs.Items.{is_after_overflow, is_after_refused_overflow, event_of}
 use Rattle.sv_journal.specs.Legal.{EachItem, is_control, owes_overflow}
 use Rattle.sv_journal.specs.Stream.{is_synced, events_before}
 use Rattle.sv_journal.proofs.Shared.{is_on-off}
-use Rattle.sv_core.proofs.Shared.{Fate, IsPlaced, event-told, fate, handling, ignoring, at_time}
-use Rattle.sv_core.proofs.Shared.{overflow_plain, refusing, start_off_control, storing}
+use Rattle.sv_sent.proofs.Shared.{Fate, IsPlaced, event-told, fate, handling, ignoring, at_time}
+use Rattle.sv_sent.proofs.Shared.{overflow_plain, refusing, start_off_control, storing}
 use Rattle.sv_truth.specs.Truth.{calls_before}
 use Rattle.sv_truth.proofs.Facts.{unsynced}
 use Rattle.sv_truth.proofs.Agreeing.{Agree, IsBlank, agree-blank, blank-break, blank-none}

@@ -1,14 +1,15 @@
 -- Contexts through gaps: what the events that were sent name at a tick is true of all calls.
 use Rattle.std.proofs.Common.{◌≡◌, ℕ, zero, suc, ◌<◌, ◌≤◌, Bool, true, false, not, ◌&&◌, ◌||◌, cond}
-use Rattle.std.proofs.Common.{rules}
-use Rattle.std.proofs.Common.{Some, None, List, [], ◌∷◌, ◌++◌, map, refl, sym, ap, subst, ◌∙◌}
-use Rattle.std.proofs.Common.{append_assoc, append-nil, arith, ◌⊎◌, inl, inr}
+use Rattle.std.proofs.Common.{rules, Some, None, List, [], ◌∷◌, ◌++◌, map, refl, sym, ap, subst}
+use Rattle.std.proofs.Common.{◌∙◌, append_assoc, append-nil, arith, ◌⊎◌, inl, inr}
 use Rattle.std.specs.Prelude.{nat_lt, nat_le, replicate}
 use Rattle.std.proofs.lemmas.Bool.{cases_lt}
 use Rattle.std.proofs.lemmas.Bool.Decides.{nat_tests}
 use Rattle.sv_packet.specs.declared.event.Event.TheVariants as events
 use Rattle.sv_packet.specs.declared.event.TimedEvent.{TimedEvent}
-use Rattle.sv_workload.specs.Load.{Load}
+use Rattle.sv_packet.specs.Events.{last_time}
+use Rattle.sv_packet.proofs.Shared.{last_time-more}
+use Rattle.sv_load.specs.Load.{Load}
 use Rattle.sv_journal.specs.declared.journal.Origin.{Origin}
 use Rattle.sv_journal.specs.declared.journal.Outcome.TheVariants.{Stored}
 use Rattle.sv_journal.specs.declared.journal.Item.{Item}
@@ -18,15 +19,12 @@ use Rattle.sv_journal.specs.Items.{is_after_refused_overflow}
 use Rattle.sv_journal.specs.Legal.{EachItem, IsLegal, is_control}
 use Rattle.sv_journal.specs.Stream.{is_synced, events_before, sent_events}
 use Rattle.sv_journal.proofs.Shared.{last_moment-stored, last_moment-other}
-use Rattle.sv_core.proofs.Shared.{Fate, IsPlaced, and_no, by_test, clash, event-told, events-kept}
-use Rattle.sv_core.proofs.Shared.{at_time}
-use Rattle.sv_core.proofs.Shared.{fate, handling, ignoring, nops-told, overflow_plain, placed}
-use Rattle.sv_core.proofs.Shared.{refusing, storing}
+use Rattle.sv_sent.proofs.Shared.{Fate, IsPlaced, and_no, by_test, clash, event-told, events-kept}
+use Rattle.sv_sent.proofs.Shared.{at_time, fate, handling, ignoring, nops-told, overflow_plain}
+use Rattle.sv_sent.proofs.Shared.{placed, refusing, storing}
 use Rattle.sv_context.specs.declared.context.Context.TheVariants.{Gap}
 use Rattle.sv_context.specs.Context.{context_after}
 use Rattle.sv_timeline.specs.Ticks.{is_gap_from, is_gap_to, events_until, context_at}
-use Rattle.sv_packet.specs.Events.{last_time}
-use Rattle.sv_packet.proofs.Shared.{last_time-more}
 use Rattle.sv_timeline.proofs.Shared.{AreUpTo, context_at-later, context_at-new, context_before}
 use Rattle.sv_timeline.proofs.Shared.{filter_all, until_later, up_to_more}
 use Rattle.sv_truth.specs.Truth.{AreContextsTrue, IsNamed, call_event, calls_before}

@@ -1,7 +1,7 @@
 -- What items are by what became of them.
 use Rattle.std.proofs.Common.{◌≡◌, Bool, true, false, ◌&&◌, ◌||◌, List, [], ◌∷◌, ◌++◌, refl, rules}
 use Rattle.std.proofs.Common.{sym, ap, ◌∙◌}
-use Rattle.sv_workload.specs.Load.{Load}
+use Rattle.sv_load.specs.Load.{Load}
 use Rattle.sv_journal.specs.declared.journal.Origin.{Origin}
 use Rattle.sv_journal.specs.declared.journal.Origin.TheVariants.{Call, Sync, Reply, Overflow}
 use Rattle.sv_journal.specs.declared.journal.Origin.TheVariants.{Command}
@@ -12,7 +12,7 @@ use Rattle.sv_journal.specs.Items.{is_stored, is_sync, is_overflow, is_start, is
 use Rattle.sv_journal.specs.Items.{is_stop_reply, holds_packet, is_packet}
 use Rattle.sv_journal.specs.Legal.{EachItem, is_control}
 use Rattle.sv_journal.specs.Stream.{events_before, is_synced}
-use Rattle.sv_core.proofs.Shared.{and_no, clash, events-kept, or_last}
+use Rattle.sv_sent.proofs.Shared.{and_no, clash, events-kept, or_last}
 
 pub stop_is_packet : (item : Item) → is_stop_reply item.origin ≡ true → is_packet item ≡ true
 stop_is_packet item stop = by item.origin item.outcome stop

@@ -1,20 +1,19 @@
 -- A stored call in the stream: the events that were sent before it, its own, and further ones.
-use Rattle.std.proofs.Common.{◌≡◌, ◌≢◌, ◌≤◌, true, false, ◌&&◌, cond, Option, rules}
-use Rattle.std.proofs.Common.{Some, None, List, [], ◌∷◌, ◌++◌, reverse, refl, sym, ap, subst, ◌∙◌}
-use Rattle.std.proofs.Common.{append_assoc, append-nil}
+use Rattle.std.proofs.Common.{◌≡◌, ◌≢◌, ◌≤◌, true, false, ◌&&◌, cond, Option, rules, Some, None}
+use Rattle.std.proofs.Common.{List, [], ◌∷◌, ◌++◌, reverse, refl, sym, ap, subst, ◌∙◌, append_assoc}
+use Rattle.std.proofs.Common.{append-nil}
 use Rattle.std.specs.Prelude.{option_map, option_to_list}
 use Rattle.std.proofs.lemmas.List.{reverse-append}
 use Rattle.sv_packet.specs.declared.event.Event.{Event}
 use Rattle.sv_packet.specs.declared.event.TimedEvent.{TimedEvent}
-use Rattle.sv_workload.specs.Load.{Load}
+use Rattle.sv_load.specs.Load.{Load}
 use Rattle.sv_journal.specs.declared.journal.Origin.{Origin}
 use Rattle.sv_journal.specs.declared.journal.Item.{Item}
-use Rattle.sv_journal.specs.Items.{latest_first, is_sync, is_overflow, is_stored}
-use Rattle.sv_journal.specs.Items.{event_of}
+use Rattle.sv_journal.specs.Items.{latest_first, is_sync, is_overflow, is_stored, event_of}
 use Rattle.sv_journal.specs.Legal.{EachItem, IsLegal}
-use Rattle.sv_journal.specs.Stream.{is_synced, told_by, events_before, sent_events}
-use Rattle.sv_core.proofs.Shared.{AreSpellable, IsPlaced, IsSpellable, event-told, at_time}
-use Rattle.sv_core.proofs.Shared.{how_far, placed, synced-before}
+use Rattle.sv_journal.specs.Stream.{is_synced, events_told_by, events_before, sent_events}
+use Rattle.sv_sent.proofs.Shared.{AreSpellable, IsPlaced, IsSpellable, event-told, at_time, how_far}
+use Rattle.sv_sent.proofs.Shared.{placed, synced-before}
 use Rattle.sv_latency.specs.declared.class.Class.{Class}
 use Rattle.sv_latency.specs.declared.class.Class.TheVariants.{Unknown}
 use Rattle.sv_latency.specs.Class.{class_of}
@@ -45,7 +44,7 @@ grown load (i ∷ after) earlier =
     let (more, is) = grown load after earlier in
     let last : List TimedEvent =
     cond (is_stored i.outcome && is_synced (after ++ earlier))
-    (told_by load (after ++ earlier) i) [] in
+    (events_told_by load (after ++ earlier) i) [] in
     (more ++ last, ap (λ es. es ++ last) is ∙ append_assoc (events_before load earlier) more last)
 
 call-not-sync : (load : Load) (o : Origin) (event : Event) → call_event load o ≡ Some event →

@@ -9,7 +9,7 @@ use Rattle.sv_packet.specs.declared.event.Event.{Event}
 use Rattle.sv_packet.specs.declared.event.Event.TheVariants.{Nop}
 use Rattle.sv_packet.specs.declared.event.TimedEvent.{TimedEvent}
 use Rattle.sv_packet.specs.Events.{is_break}
-use Rattle.sv_workload.specs.Load.{Load}
+use Rattle.sv_load.specs.Load.{Load}
 use Rattle.sv_journal.specs.declared.journal.Origin.TheVariants.{Sync}
 use Rattle.sv_journal.specs.declared.journal.Item.{Item}
 use Rattle.sv_journal.specs.Items.{is_sync, is_overflow, is_start, is_stop_reply, is_stored}
@@ -18,16 +18,14 @@ use Rattle.sv_journal.specs.Legal.{EachItem, outcome_at}
 use Rattle.sv_journal.specs.Stream.{is_synced, events_before}
 use Rattle.sv_journal.proofs.Shared.{pending_at-refused, pending_at-other, is_on-start, is_on-other}
 use Rattle.sv_journal.proofs.Shared.{is_on-told}
-use Rattle.sv_core.proofs.Shared.{Fate, and_no, event-told, events-kept, fate, handling, ignoring}
-use Rattle.sv_core.proofs.Shared.{at_time}
-use Rattle.sv_core.proofs.Shared.{nops-told, refusing, start_off_control, storing, sync_is}
+use Rattle.sv_sent.proofs.Shared.{Fate, and_no, event-told, events-kept, fate, handling, ignoring}
+use Rattle.sv_sent.proofs.Shared.{at_time, nops-told, refusing, start_off_control, storing, sync_is}
 use Rattle.sv_truth.specs.Truth.{call_event, calls_before}
 use Rattle.sv_truth.proofs.Facts.{packet_no_overflow, stop_is_packet, stop_not_control, unsynced}
 use Rattle.sv_truth.proofs.Agreeing.{Agree, IsBlank, IsIdle, agree-blank, agree-both, agree-idle}
 use Rattle.sv_truth.proofs.Agreeing.{blank-break, blank-idle, blank-none}
 use Rattle.sv_truth.proofs.Telling.{Telling, breaking, control_no_call, idle_nop, idling, making}
-use Rattle.sv_truth.proofs.Telling.{HasNoBreaks}
-use Rattle.sv_truth.proofs.Telling.{no_packet_no_call, stop_breaks, telling}
+use Rattle.sv_truth.proofs.Telling.{HasNoBreaks, no_packet_no_call, stop_breaks, telling}
 
 pub record IsIntact (load : Load) (earlier : List Item) : Type 0 where
   pub agree : pending_at earlier ≡ 0 →

@@ -4,12 +4,12 @@ use Rattle.sv_packet.specs.declared.event.Packet.{Packet}
 use Rattle.sv_packet.specs.Time.{timed}
 use Rattle.sv_stream.specs.declared.end.End.{End}
 use Rattle.sv_stream.specs.Reads.{Reads}
-use Rattle.sv_workload.specs.Load.{Load}
-use Rattle.sv_workload.specs.Need.{IsWithinLimits}
+use Rattle.sv_load.specs.Load.{Load}
+use Rattle.sv_load.specs.Need.{IsWithinLimits}
 use Rattle.sv_journal.specs.declared.journal.Item.{Item}
 use Rattle.sv_journal.specs.Legal.{IsLegal}
 use Rattle.sv_journal.specs.Stream.{stream_of, sent_events, IsCalm}
-use Rattle.sv_core.proofs.Shared.{packets_as, spellable, times_as}
+use Rattle.sv_sent.proofs.Shared.{packets_as, spellable, times_as}
 use Rattle.sv_truth.specs.Truth.{AreContextsTrue, TellsClasses, TellsContexts, TellsStarts}
 use Rattle.sv_truth.specs.Truth.{TellsTruly}
 use Rattle.sv_truth.proofs.Contexts.{contexts_true}

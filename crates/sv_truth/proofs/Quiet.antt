@@ -8,7 +8,7 @@ use Rattle.std.specs.Option.{option_map_or}
 use Rattle.std.proofs.lemmas.Bool.Decides.{nat_tests}
 use Rattle.std.proofs.lemmas.List.Folds.{list_all-append}
 use Rattle.sv_packet.specs.declared.event.TimedEvent.{TimedEvent}
-use Rattle.sv_workload.specs.Load.{Load}
+use Rattle.sv_load.specs.Load.{Load}
 use Rattle.sv_journal.specs.declared.journal.Kind.TheVariants as kinds
 use Rattle.sv_journal.specs.declared.journal.Origin.{Origin}
 use Rattle.sv_journal.specs.declared.journal.Origin.TheVariants.{Sync, Reply}
@@ -17,12 +17,11 @@ use Rattle.sv_journal.specs.Items.{is_sync, is_overflow, is_start, is_stored, is
 use Rattle.sv_journal.specs.Items.{is_on, pending_at, last_moment}
 use Rattle.sv_journal.specs.Legal.{EachItem, is_control}
 use Rattle.sv_journal.proofs.Shared.{pending_at-refused, pending_at-other, is_on-off, is_on-other}
-use Rattle.sv_journal.proofs.Shared.{last_moment-stored, last_moment-other}
-use Rattle.sv_core.proofs.Shared.{Fate, IsLater, IsPlaced, and_no, fate, handling, ignoring}
-use Rattle.sv_core.proofs.Shared.{at_time}
-use Rattle.sv_core.proofs.Shared.{no_ticks, or_last, previous, previous-other, previous-over}
-use Rattle.sv_core.proofs.Shared.{refusing, start_off_control, storing, sync_is, ticks-cons}
-use Rattle.sv_core.proofs.Shared.{ticks_in}
+use Rattle.sv_journal.proofs.Shared.{last_moment-stored, last_moment-other, no_ticks, ticks-cons}
+use Rattle.sv_journal.proofs.Shared.{ticks_in}
+use Rattle.sv_sent.proofs.Shared.{Fate, IsLater, IsPlaced, and_no, fate, handling, ignoring}
+use Rattle.sv_sent.proofs.Shared.{at_time, or_last, previous, previous-other, previous-over}
+use Rattle.sv_sent.proofs.Shared.{refusing, start_off_control, storing, sync_is}
 use Rattle.sv_timeline.proofs.Shared.{AreUpTo, up_to_more}
 use Rattle.sv_truth.specs.Truth.{call_event, calls_before}
 use Rattle.sv_truth.proofs.Intact.{calls-kept, calls-more}

@@ -5,7 +5,7 @@ use Rattle.std.proofs.Common.{◌++◌, refl, sym, ap, subst, ◌∙◌, arith, 
 use Rattle.std.specs.Option.{option_map_or}
 use Rattle.sv_packet.specs.declared.event.Event.{Event}
 use Rattle.sv_packet.specs.Events.{is_break}
-use Rattle.sv_workload.specs.Load.{Load}
+use Rattle.sv_load.specs.Load.{Load}
 use Rattle.sv_journal.specs.declared.journal.Kind.TheVariants as kinds
 use Rattle.sv_journal.specs.declared.journal.Origin.{Origin}
 use Rattle.sv_journal.specs.declared.journal.Origin.TheVariants.{Reply}
@@ -15,9 +15,9 @@ use Rattle.sv_journal.specs.Items.{is_stored, is_refused, is_packet, holds_packe
 use Rattle.sv_journal.specs.Items.{pending_at, event_of, event_at}
 use Rattle.sv_journal.specs.Legal.{EachItem, IsLegal, is_control}
 use Rattle.sv_journal.proofs.Shared.{pending_at-refused, pending_at-other, is_on-other, is_on-off}
-use Rattle.sv_core.proofs.Shared.{Fate, IsPlaced, and_no, by_test, clash, fate, handling, ignoring}
-use Rattle.sv_core.proofs.Shared.{overflow_plain, placed, previous-over, refusing}
-use Rattle.sv_core.proofs.Shared.{start_off_control, storing}
+use Rattle.sv_sent.proofs.Shared.{Fate, IsPlaced, and_no, by_test, clash, fate, handling, ignoring}
+use Rattle.sv_sent.proofs.Shared.{overflow_plain, placed, previous-over, refusing}
+use Rattle.sv_sent.proofs.Shared.{start_off_control, storing}
 use Rattle.sv_truth.specs.Segment.{HoldsCalls, HoldsNoBreak, IsOfSegment}
 use Rattle.sv_truth.specs.Truth.{call_event}
 use Rattle.sv_truth.proofs.Clear.{IsClear, IsTold, clear}

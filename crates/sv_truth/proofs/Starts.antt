@@ -1,6 +1,6 @@
 -- An event of the stream that starts a task is a stored call's.
-use Rattle.std.proofs.Common.{◌≡◌, ℕ, zero, suc, Bool, true, false, ◌&&◌, Some, None, List, []}
-use Rattle.std.proofs.Common.{◌∷◌, ◌++◌, refl, sym, ap, ◌∙◌, append-nil, ◌⊎◌, inl, inr, rules}
+use Rattle.std.proofs.Common.{◌≡◌, ℕ, zero, suc, Bool, true, false, ◌&&◌, Some, None, List, [], ◌∷◌}
+use Rattle.std.proofs.Common.{◌++◌, refl, sym, ap, ◌∙◌, append-nil, ◌⊎◌, inl, inr, rules}
 use Rattle.std.specs.Prelude.{option_map, option_to_list, replicate}
 use Rattle.std.proofs.lemmas.Bool.{and_parts}
 use Rattle.std.proofs.lemmas.List.{reverse-reverse}
@@ -8,13 +8,13 @@ use Rattle.sv_packet.specs.declared.event.Event.{Event}
 use Rattle.sv_packet.specs.declared.event.Event.TheVariants.{Nop}
 use Rattle.sv_packet.specs.declared.event.TimedEvent.{TimedEvent}
 use Rattle.sv_packet.specs.Events.{is_break}
-use Rattle.sv_workload.specs.Load.{Load}
+use Rattle.sv_load.specs.Load.{Load}
 use Rattle.sv_journal.specs.declared.journal.Item.{Item}
 use Rattle.sv_journal.specs.Items.{latest_first, is_overflow, is_stored, is_sync, event_of}
 use Rattle.sv_journal.specs.Items.{last_moment}
 use Rattle.sv_journal.specs.Stream.{events_before, is_synced, sent_events}
 use Rattle.sv_latency.specs.Class.{started_task, task_of}
-use Rattle.sv_core.proofs.Shared.{at_time, event-told, events-kept, nops-told}
+use Rattle.sv_sent.proofs.Shared.{at_time, event-told, events-kept, nops-told}
 use Rattle.sv_truth.specs.Truth.{IsStoredCall, call_event, call_in}
 use Rattle.sv_truth.proofs.Fronts.{parted}
 use Rattle.sv_truth.proofs.Telling.{Telling, breaking, idling, making, telling}

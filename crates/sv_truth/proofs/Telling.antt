@@ -6,13 +6,13 @@ use Rattle.std.specs.Option.{option_map_or}
 use Rattle.sv_packet.specs.declared.event.Event.{Event}
 use Rattle.sv_packet.specs.declared.event.Event.TheVariants as events
 use Rattle.sv_packet.specs.Events.{is_break}
-use Rattle.sv_workload.specs.declared.load.Act.{Act}
-use Rattle.sv_workload.specs.declared.load.Act.TheVariants as acts
-use Rattle.sv_workload.specs.declared.load.Task.{Task}
+use Rattle.sv_load.specs.declared.load.Act.{Act}
+use Rattle.sv_load.specs.declared.load.Act.TheVariants as acts
+use Rattle.sv_load.specs.declared.load.Task.{Task}
+use Rattle.sv_load.specs.Load.{Load, act_of, period}
+use Rattle.sv_load.specs.Need.{is_start_act, is_stop_act, IsWithinLimits}
 use Rattle.sv_desc.specs.Modules.{ModuleRow}
 use Rattle.sv_desc.specs.Says.{micros_at}
-use Rattle.sv_workload.specs.Load.{Load, act_of, is_break as load_break, period}
-use Rattle.sv_workload.specs.Need.{is_start_act, is_stop_act, IsWithinLimits}
 use Rattle.sv_journal.specs.declared.journal.Kind.{Kind}
 use Rattle.sv_journal.specs.declared.journal.Kind.TheVariants as kinds
 use Rattle.sv_journal.specs.declared.journal.Origin.{Origin}
@@ -24,7 +24,7 @@ use Rattle.sv_journal.specs.Items.{is_overflow, is_stop_reply, holds_packet, is_
 use Rattle.sv_journal.specs.Items.{event_at, reply_event, system_time, task_info, stack_info}
 use Rattle.sv_journal.specs.Items.{module_desc}
 use Rattle.sv_journal.specs.Legal.{is_control}
-use Rattle.sv_core.proofs.Shared.{act_spoken, clash}
+use Rattle.sv_sent.proofs.Shared.{act_spoken, clash}
 use Rattle.sv_truth.specs.Truth.{call_event, recorded_by}
 use Rattle.sv_truth.proofs.Agreeing.{IsIdle}
 
@@ -54,7 +54,8 @@ idle_time : (load : Load) (moment : ℕ) → IsIdle (system_time load moment)
 idle_time load moment =
     elim load.timed as
     (λ b. IsIdle
-    (cond b (events.SystimeUs (micros_at load.clock moment % 2 ^ 32) (micros_at load.clock moment / 2 ^ 32))
+    (cond b (events.SystimeUs (micros_at load.clock moment % 2 ^ 32)
+    (micros_at load.clock moment / 2 ^ 32))
     (events.SystimeCycles (moment % period load)))) [
       | true ↦ record { goes_on = refl; no_role = refl; no_task = refl }
       | false ↦ record { goes_on = refl; no_role = refl; no_task = refl }
@@ -151,10 +152,6 @@ pub overflow_breaks : (load : Load) (moment : ℕ) (origin : Origin) → is_over
     is_break (event_at load moment origin) ≡ true
 overflow_breaks = search rules
 
--- what a workload calls a break is one
-same_break : (event : Event) → load_break event ≡ is_break event
-same_break = search rules
-
 pub no_breaks : (load : Load) → IsWithinLimits load → HasNoBreaks load
 no_breaks load s (Call writer step) event is = by (act_of load writer step) refl is
   where
@@ -164,7 +161,7 @@ no_breaks load s (Call writer step) event is = by (act_of load writer step) refl
     by (Some acts.Start) at e = absurd cc
     by (Some acts.Stop) at e = absurd cc
     by (Some (acts.Event other)) at e = let same : other ≡ event = cc in
-        ap is_break (sym same) ∙ sym (same_break other) ∙ (act_spoken load writer step other s at).3
+        ap is_break (sym same) ∙ (act_spoken load writer step other s at).3
 no_breaks load s Sync event is = absurd cc
 no_breaks load s (Reply kind index) event is = absurd cc
 no_breaks load s (Overflow count) event is = absurd cc

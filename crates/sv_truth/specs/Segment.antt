@@ -2,7 +2,7 @@
 use Rattle.std.specs.Prelude.{◌≡◌, ◌⊎◌, true, false, List, [], ◌∷◌, Some}
 use Rattle.sv_packet.specs.declared.event.Event.{Event}
 use Rattle.sv_packet.specs.Events.{is_break}
-use Rattle.sv_workload.specs.Load.{Load}
+use Rattle.sv_load.specs.Load.{Load}
 use Rattle.sv_journal.specs.declared.journal.Item.{Item}
 use Rattle.sv_journal.specs.Items.{is_sync, is_stop_reply, is_stored, event_of}
 use Rattle.sv_truth.specs.Truth.{call_event}

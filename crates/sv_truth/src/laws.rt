@@ -1,6 +1,6 @@
 ghost use Rattle.std.specs.Prelude.{◌≡◌, List, ◌∷◌, ◌++◌};
-ghost use Rattle.sv_workload.specs.Load.{Load};
-ghost use Rattle.sv_workload.specs.Need.{IsWithinLimits};
+ghost use Rattle.sv_load.specs.Load.{Load};
+ghost use Rattle.sv_load.specs.Need.{IsWithinLimits};
 ghost use Rattle.sv_journal.specs.declared.journal.Item.{Item};
 ghost use Rattle.sv_journal.specs.Items.{latest_first};
 ghost use Rattle.sv_journal.specs.Legal.{IsLegal};

@@ -14,16 +14,17 @@ use Rattle.sv_workload.specs.declared.keyword.Keyword.TheVariants.{Unknown}
 use Rattle.sv_workload.specs.declared.fault.LineFault.{LineFault}
 use Rattle.sv_desc.specs.Modules.{is_full_for}
 use Rattle.sv_workload.specs.declared.settings.Settings.{Settings}
-use Rattle.sv_workload.specs.Need.{one_if, is_start_act}
-use Rattle.sv_workload.specs.Scripts.{over_scripts}
+use Rattle.sv_load.specs.Need.{one_if, is_start_act}
+use Rattle.sv_load.specs.Scripts.{over_scripts}
 use Rattle.sv_workload.specs.Line.{Line}
 use Rattle.sv_workload.specs.Checks.{Check, checks, may_stand}
 use Rattle.sv_workload.specs.Draft.{Draft}
-use Rattle.sv_workload.specs.Limits.{most_steps}
+use Rattle.sv_load.specs.Limits.{most_steps}
 
 -- what the first of these checks that a line fails finds wrong
-abbrev pub first_of : List (Check × LineFault) → List Line → Line → Option LineFault
-first_of some before line = option_map (λ check. check.1) (find (λ check. check.0 before line) some)
+abbrev pub first_failed : List (Check × LineFault) → List Line → Line → Option LineFault
+first_failed some before line =
+    option_map (λ check. check.1) (find (λ check. check.0 before line) some)
 
 -- the checks of where a line stands, and of its words
 abbrev pub form_checks : List (Check × LineFault)
@@ -37,9 +38,9 @@ abbrev pub is_no_keyword : Keyword → Bool
 is_no_keyword Unknown = true
 is_no_keyword _ = false
 
-abbrev pub is_command : Keyword → Bool
-is_command (Setup Command) = true
-is_command _ = false
+abbrev pub is_command_word : Keyword → Bool
+is_command_word (Setup Command) = true
+is_command_word _ = false
 
 -- the keyword may stand after what the draft holds
 abbrev pub has_place : Draft → Keyword → Bool

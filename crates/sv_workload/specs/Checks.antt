@@ -23,19 +23,19 @@ use Rattle.sv_workload.specs.declared.range.Range.{Range}
 use Rattle.sv_desc.specs.Modules.{is_full_for}
 use Rattle.sv_workload.specs.Keywords.{is_same}
 use Rattle.sv_workload.specs.Forms.{between, is_in, Form, form_of}
-use Rattle.sv_workload.specs.Words.{number_of}
-use Rattle.sv_workload.specs.Line.{Line, text_of}
-use Rattle.sv_workload.specs.Meaning.{says, count, is_there, number, base_of, shift_of, tasks_of}
+use Rattle.sv_text.specs.Words.{number_of}
+use Rattle.sv_workload.specs.Line.{Line, text_after}
+use Rattle.sv_workload.specs.Meaning.{says, count, is_there, number, base_in, shift_in, tasks_in}
 use Rattle.sv_workload.specs.Meaning.{modules_of}
-use Rattle.sv_workload.specs.Limits.{most_steps, most_starts, most_writers, most_ticks}
+use Rattle.sv_load.specs.Limits.{most_steps, most_starts, most_writers, most_ticks}
 
 -- a test of a line after other lines; it is true of a line that fails
 abbrev pub Check : Type 0
 Check = List Line → Line → Bool
 
 -- no keyword stands where it should
-abbrev pub is_unknown : Check
-is_unknown before line = is_same Unknown line.keyword
+abbrev pub lacks_keyword : Check
+lacks_keyword before line = is_same Unknown line.keyword
 
 -- the words that say how identifiers are shrunk
 abbrev pub sets_identifiers : SetupWord → Bool
@@ -84,7 +84,7 @@ fits_command (byte ∷ params) =
 abbrev pub is_misshapen : Check
 is_misshapen before line =
     not (if says (Setup Command) line then fits_command line.words else fits (form_of line.keyword)
-    line.words (text_of line))
+    line.words (text_after line))
 
 -- the word is a number of the range
 abbrev pub is_within : Range → List ℕ → Bool
@@ -111,7 +111,7 @@ is_printable byte = nat_le 0x20 byte && nat_le byte 0x7E
 abbrev pub has_bad_text : Check
 has_bad_text before line =
     option_map_or (λ most. not
-    (nat_le (length (text_of line)) most && list_all is_printable (text_of line)))
+    (nat_le (length (text_after line)) most && list_all is_printable (text_after line)))
     (form_of line.keyword).text false
 
 -- nothing of the identifier is lost as it is shrunk
@@ -122,7 +122,7 @@ is_aligned id base shift = (offset_from base id % 2 ^ shift) == 0
 abbrev pub is_unaligned : Check
 is_unaligned before line =
     (form_of line.keyword).identifier && not
-    (is_aligned (number line 0) (base_of before) (shift_of before))
+    (is_aligned (number line 0) (base_in before) (shift_in before))
 
 -- the settings, each of which is told once
 abbrev pub single_keywords : List Keyword
@@ -132,17 +132,17 @@ single_keywords = map Setup (Ring ∷ Clock ∷ Cpu ∷ Base ∷ Shift ∷ Time 
 abbrev pub is_repeated : Check
 is_repeated before line =
     (list_any (is_same line.keyword) single_keywords && is_there line.keyword before)
-    || (says (Setup Task) line && list_any (λ task. task.id == number line 0) (tasks_of before))
+    || (says (Setup Task) line && list_any (λ task. task.id == number line 0) (tasks_in before))
 
 -- lines of scripts
-abbrev pub is_step : Keyword → Bool
-is_step (Act word) = true
-is_step _ = false
+abbrev pub is_step_word : Keyword → Bool
+is_step_word (Act word) = true
+is_step_word _ = false
 
 -- lines after the line `schedule`
-abbrev pub is_turn : Keyword → Bool
-is_turn (Turn word) = true
-is_turn _ = false
+abbrev pub is_turn_word : Keyword → Bool
+is_turn_word (Turn word) = true
+is_turn_word _ = false
 
 -- how many lines have a keyword of this kind
 abbrev pub count_of : (Keyword → Bool) → List Line → ℕ
@@ -156,9 +156,10 @@ is_all_there before (Setup Module) = nat_le 64 (count (Setup Module) before)
 is_all_there before (Setup Command) = nat_le 256 (count (Setup Command) before)
 is_all_there before Writer = nat_le most_writers (count Writer before)
 is_all_there before (Act Start) =
-    nat_le most_steps (count_of is_step before) || nat_le most_starts (count (Act Start) before)
-is_all_there before (Act word) = nat_le most_steps (count_of is_step before)
-is_all_there before (Turn word) = nat_le most_steps (count_of is_turn before)
+    nat_le most_steps (count_of is_step_word before)
+    || nat_le most_starts (count (Act Start) before)
+is_all_there before (Act word) = nat_le most_steps (count_of is_step_word before)
+is_all_there before (Turn word) = nat_le most_steps (count_of is_turn_word before)
 is_all_there before _ = false
 
 -- its like stands before it as often as it may
@@ -177,7 +178,7 @@ has_no_room before line =
 -- the checks, first to last, and what each finds wrong
 abbrev pub checks : List (Check × LineFault)
 checks =
-    (is_unknown, UnknownWord)
+    (lacks_keyword, UnknownWord)
     ∷ (is_misplaced, Misplaced)
     ∷ (is_misshapen, Shape)
     ∷ (has_bad_number, Number)

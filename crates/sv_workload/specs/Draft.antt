@@ -1,27 +1,24 @@
 -- A workload in the making: what the lines so far told.
-use Rattle.std.specs.Prelude.{◌≡◌, ◌≤◌, Bool, List, [], ◌∷◌, ◌++◌, length}
-use Rattle.std.specs.Prelude.{ℕ, filter_map, None, All}
-use Rattle.sv_prim.specs.Text.{AreBytes}
+use Rattle.std.specs.Prelude.{◌≡◌, Bool, List, [], ◌∷◌, ◌++◌}
+use Rattle.std.specs.Prelude.{ℕ, filter_map, None}
 use Rattle.sv_desc.specs.Modules.{ModuleRow}
 use Rattle.sv_workload.specs.declared.settings.Settings.{Settings}
-use Rattle.sv_workload.specs.declared.load.Task.{Task}
-use Rattle.sv_workload.specs.declared.load.Command.{Command}
-use Rattle.sv_workload.specs.declared.load.Step.{Step}
-use Rattle.sv_workload.specs.declared.load.Action.{Action}
+use Rattle.sv_load.specs.declared.load.Task.{Task}
+use Rattle.sv_load.specs.declared.load.Command.{Command}
+use Rattle.sv_load.specs.declared.load.Step.{Step}
+use Rattle.sv_load.specs.declared.load.Action.{Action}
 use Rattle.sv_workload.specs.declared.keyword.SetupWord.TheVariants.{Ring, Clock, Cpu, Base, Shift}
 use Rattle.sv_workload.specs.declared.keyword.SetupWord.TheVariants.{Time}
 use Rattle.sv_workload.specs.declared.keyword.ActWord.TheVariants.{Start}
 use Rattle.sv_workload.specs.declared.keyword.Keyword.TheVariants.{Setup, Act, Schedule}
 use Rattle.sv_workload.specs.Line.{Line}
-use Rattle.sv_workload.specs.Load.{Load}
-use Rattle.sv_workload.specs.Need.{one_if, is_start_act, IsTask, HasWords, IsAsked, IsTurn}
+use Rattle.sv_load.specs.Load.{Load}
+use Rattle.sv_load.specs.Need.{one_if, is_start_act}
 use Rattle.sv_workload.specs.Settings.{ring_told, clock_told, cpu_told, base_told, shift_told}
-use Rattle.sv_workload.specs.Settings.{AreInRange}
-use Rattle.sv_workload.specs.Scripts.{over_scripts}
-use Rattle.sv_workload.specs.Meaning.{count, is_there, told, tasks_of, scripts_of, action_of}
+use Rattle.sv_load.specs.Scripts.{over_scripts}
+use Rattle.sv_workload.specs.Meaning.{count, is_there, told, tasks_in, scripts_of, action_of}
 use Rattle.sv_workload.specs.Meaning.{descriptions_of, modules_of, commands_of}
-use Rattle.sv_workload.specs.Checks.{is_step, count_of, fault_of}
-use Rattle.sv_workload.specs.Limits.{most_steps, most_writers}
+use Rattle.sv_workload.specs.Checks.{is_step_word, count_of, fault_of}
 
 pub record Draft : Type 0 where
   pub settings : Settings
@@ -33,26 +30,6 @@ pub record Draft : Type 0 where
   pub scripts : List (List Step)
   pub scheduled : Bool
   pub schedule : List Action
-
--- the settings, texts, tasks, commands and turns are of their ranges, and all but the steps are
--- few. Of modules that holds by itself
-pub record IsSound (settings : Settings) (lines : List (List ℕ)) (tasks : List Task)
-    (commands : List Command) (scripts : List (List Step)) (schedule : List Action) : Type 0 where
-  pub ranges : AreInRange settings
-  pub few_lines : length lines ≤ 4
-  pub some_lines : All (λ text. 1 ≤ length text) lines
-  pub short_lines : All (λ text. length text ≤ 128) lines
-  pub byte_lines : All AreBytes lines
-  pub few_tasks : length tasks ≤ 32
-  pub tasks_are : All IsTask tasks
-  pub tasks_hold : All HasWords tasks
-  pub short_names : All (λ task. length task.name ≤ 128) tasks
-  pub byte_names : All (λ task. AreBytes task.name) tasks
-  pub few_commands : length commands ≤ 256
-  pub commands_are : All IsAsked commands
-  pub few_scripts : length scripts ≤ most_writers
-  pub few_turns : length schedule ≤ most_steps
-  pub turns_are : All (IsTurn (length scripts)) schedule
 
 -- the settings that these lines tell
 abbrev pub settings_of : List Line → Settings
@@ -71,11 +48,11 @@ pub record Stands (draft : Draft) (lines : List Line) : Type 0 where
   pub settings : draft.settings ≡ settings_of lines
   pub timed : draft.timed ≡ is_there (Setup Time) lines
   pub texts : draft.lines ≡ descriptions_of lines
-  pub tasks : draft.tasks ≡ tasks_of lines
+  pub tasks : draft.tasks ≡ tasks_in lines
   pub modules : draft.modules ≡ modules_of lines
   pub commands : draft.commands ≡ commands_of lines
   pub scripts : draft.scripts ≡ scripts_of lines
-  pub steps : over_scripts (λ s. 1) draft.scripts ≡ count_of is_step lines
+  pub steps : over_scripts (λ s. 1) draft.scripts ≡ count_of is_step_word lines
   pub starts : over_scripts (λ s. one_if (is_start_act s.act)) draft.scripts ≡ count (Act Start)
       lines
   pub scheduled : draft.scheduled ≡ is_there Schedule lines
@@ -86,8 +63,8 @@ abbrev pub IsGoodAfter : Draft → Line → Type 0
 IsGoodAfter draft line = (lines : List Line) × Stands draft lines × (fault_of lines line ≡ None)
 
 -- the draft holds what one more line says
-abbrev pub HasTaken : Draft → Draft → Line → Type 0
-HasTaken old new line =
+abbrev pub TakesLine : Draft → Draft → Line → Type 0
+TakesLine old new line =
     (lines : List Line) → Stands old lines → fault_of lines line ≡ None → Stands new
     (lines ++ line ∷ [])
 

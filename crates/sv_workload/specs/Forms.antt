@@ -15,7 +15,7 @@ use Rattle.sv_workload.specs.declared.keyword.TurnWord.TheVariants.{Step, Read, 
 use Rattle.sv_workload.specs.declared.keyword.Keyword.{Keyword}
 use Rattle.sv_workload.specs.declared.keyword.Keyword.TheVariants.{Setup, Writer, Act, Schedule}
 use Rattle.sv_workload.specs.declared.keyword.Keyword.TheVariants.{Turn, Unknown}
-use Rattle.sv_workload.specs.Limits.{most_steps}
+use Rattle.sv_load.specs.Limits.{most_steps}
 
 -- both ends belong to the range
 abbrev pub between : ℕ → ℕ → Range
@@ -47,61 +47,61 @@ abbrev pub bare : Form
 bare = record { numbers = []; more = []; text = None; identifier = false }
 
 -- these numbers
-abbrev pub numbers : List Range → Form
-numbers ranges = record bare { numbers = ranges }
+abbrev pub of_numbers : List Range → Form
+of_numbers ranges = record bare { numbers = ranges }
 
 -- a text alone
-abbrev pub text : ℕ → Form
-text most = record bare { text = Some most }
+abbrev pub of_text : ℕ → Form
+of_text most = record bare { text = Some most }
 
 -- an identifier, and these numbers
-abbrev pub identifier : List Range → Form
-identifier ranges = record bare { numbers = word32 ∷ ranges; identifier = true }
+abbrev pub of_identifier : List Range → Form
+of_identifier ranges = record bare { numbers = word32 ∷ ranges; identifier = true }
 
 -- some of these numbers too, from the first on
 abbrev pub with_more : List Range → Form → Form
 with_more ranges form = record form { more = ranges }
 
 -- a text after the numbers
-abbrev pub with_text : ℕ → Form → Form
-with_text most form = record form { text = Some most }
+abbrev pub then_text : ℕ → Form → Form
+then_text most form = record form { text = Some most }
 
 -- the language's table: what each keyword wants after it
 abbrev pub form_of : Keyword → Form
-form_of (Setup Ring) = numbers (between 64 65536 ∷ [])
-form_of (Setup Clock) = numbers (between 1 4294967295 ∷ [])
-form_of (Setup Cpu) = numbers (between 1 4294967295 ∷ [])
-form_of (Setup Base) = numbers (word32 ∷ [])
-form_of (Setup Shift) = numbers (between 0 31 ∷ [])
+form_of (Setup Ring) = of_numbers (between 64 65536 ∷ [])
+form_of (Setup Clock) = of_numbers (between 1 4294967295 ∷ [])
+form_of (Setup Cpu) = of_numbers (between 1 4294967295 ∷ [])
+form_of (Setup Base) = of_numbers (word32 ∷ [])
+form_of (Setup Shift) = of_numbers (between 0 31 ∷ [])
 form_of (Setup Time) = bare
-form_of (Setup Desc) = text 128
-form_of (Setup Task) = with_text 32 (identifier (replicate 4 word32))
-form_of (Setup Module) = with_text 128 (numbers (between 0 16384 ∷ []))
-form_of (Setup Command) = with_more (between 0 255 ∷ []) (numbers (between 0 255 ∷ []))
+form_of (Setup Desc) = of_text 128
+form_of (Setup Task) = then_text 32 (of_identifier (replicate 4 word32))
+form_of (Setup Module) = then_text 128 (of_numbers (between 0 16384 ∷ []))
+form_of (Setup Command) = with_more (between 0 255 ∷ []) (of_numbers (between 0 255 ∷ []))
 form_of Writer = bare
 form_of (Act Start) = bare
 form_of (Act Stop) = bare
 form_of (Act Nop) = bare
-form_of (Act Isr) = numbers (word32 ∷ [])
+form_of (Act Isr) = of_numbers (word32 ∷ [])
 form_of (Act IsrExit) = bare
-form_of (Act Run) = identifier []
+form_of (Act Run) = of_identifier []
 form_of (Act Halt) = bare
-form_of (Act Ready) = identifier []
-form_of (Act Unready) = identifier (word32 ∷ [])
-form_of (Act Create) = identifier []
-form_of (Act Terminate) = identifier []
-form_of (Act Mark) = numbers (word32 ∷ [])
-form_of (Act MarkEnd) = numbers (word32 ∷ [])
+form_of (Act Ready) = of_identifier []
+form_of (Act Unready) = of_identifier (word32 ∷ [])
+form_of (Act Create) = of_identifier []
+form_of (Act Terminate) = of_identifier []
+form_of (Act Mark) = of_numbers (word32 ∷ [])
+form_of (Act MarkEnd) = of_numbers (word32 ∷ [])
 form_of (Act Idle) = bare
 form_of (Act Sched) = bare
-form_of (Act Timer) = identifier []
+form_of (Act Timer) = of_identifier []
 form_of (Act TimerExit) = bare
-form_of (Act Name) = with_text 128 (identifier [])
-form_of (Act Print) = text 128
-form_of (Act Call) = with_more (replicate 8 word32) (numbers (between 32 16383 ∷ []))
-form_of (Act Return) = with_more (word32 ∷ []) (numbers (word32 ∷ []))
+form_of (Act Name) = then_text 128 (of_identifier [])
+form_of (Act Print) = of_text 128
+form_of (Act Call) = with_more (replicate 8 word32) (of_numbers (between 32 16383 ∷ []))
+form_of (Act Return) = with_more (word32 ∷ []) (of_numbers (word32 ∷ []))
 form_of Schedule = bare
-form_of (Turn Step) = with_more (between 1 most_steps ∷ []) (numbers (any ∷ []))
-form_of (Turn Read) = numbers (between 1 65536 ∷ [])
+form_of (Turn Step) = with_more (between 1 most_steps ∷ []) (of_numbers (any ∷ []))
+form_of (Turn Read) = of_numbers (between 1 65536 ∷ [])
 form_of (Turn Send) = bare
 form_of Unknown = bare

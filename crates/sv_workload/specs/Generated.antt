@@ -4,21 +4,21 @@ use Rattle.std.specs.Prelude.{List, [], ◌∷◌, ◌++◌, if◌then◌else◌
 use Rattle.sv_packet.specs.declared.event.Event.{Event}
 use Rattle.sv_packet.specs.declared.event.Event.TheVariants.{TaskStart, TaskReady, IsrEnter}
 use Rattle.sv_packet.specs.declared.event.Event.TheVariants.{IsrExit, Idle, MarkStart}
-use Rattle.sv_workload.specs.declared.load.Task.{Task}
-use Rattle.sv_workload.specs.declared.load.Act.TheVariants as acts
-use Rattle.sv_workload.specs.declared.load.Step.{Step}
-use Rattle.sv_workload.specs.declared.load.Action.{Action}
-use Rattle.sv_workload.specs.declared.load.Action.TheVariants as actions
-use Rattle.sv_workload.specs.Load.{Load}
+use Rattle.sv_load.specs.declared.load.Task.{Task}
+use Rattle.sv_load.specs.declared.load.Act.TheVariants as acts
+use Rattle.sv_load.specs.declared.load.Step.{Step}
+use Rattle.sv_load.specs.declared.load.Action.{Action}
+use Rattle.sv_load.specs.declared.load.Action.TheVariants as actions
+use Rattle.sv_load.specs.Load.{Load}
 
 -- each number makes the next (a linear congruence modulo 2 ^ 32)
 abbrev pub next_number : ℕ → ℕ
 next_number x = (1664525 * x + 1013904223) % 2 ^ 32
 
 -- the number of a step, counted from 1; before the first stands the count of steps
-abbrev pub number_of : ℕ → ℕ → ℕ
-number_of n zero = n
-number_of n (suc k) = next_number (number_of n k)
+abbrev pub drawn_number : ℕ → ℕ → ℕ
+drawn_number n zero = n
+drawn_number n (suc k) = next_number (drawn_number n k)
 
 -- what a step does, by a choice from 0 to 7; its tasks are the first and the second, as they are
 -- sent
@@ -47,7 +47,7 @@ start_step = record { advance = 0; act = acts.Start }
 -- the first steps, so many
 abbrev pub steps_to : ℕ → ℕ → List Step
 steps_to n zero = []
-steps_to n (suc k) = steps_to n k ++ step_from (number_of n (suc k)) ∷ []
+steps_to n (suc k) = steps_to n k ++ step_from (drawn_number n (suc k)) ∷ []
 
 -- so many times 64 steps and a read
 abbrev pub rounds : ℕ → List Action

@@ -4,20 +4,20 @@ use Rattle.std.specs.Prelude.{◌++◌, length, map, filter, Option, Some, None,
 use Rattle.std.specs.Prelude.{if◌then◌else◌}
 use Rattle.std.specs.Option.{option_or}
 use Rattle.sv_workload.specs.declared.fault.LineFault.{LineFault}
-use Rattle.sv_workload.specs.Lines.{lines_of, is_remark}
-use Rattle.sv_workload.specs.Line.{Line, line_of}
-use Rattle.sv_workload.specs.Load.{Load}
+use Rattle.sv_text.specs.Lines.{lines_of, is_remark}
+use Rattle.sv_workload.specs.Line.{Line, line_from}
+use Rattle.sv_load.specs.Load.{Load}
 use Rattle.sv_workload.specs.Reason.{reason_of}
-use Rattle.sv_workload.specs.Meaning.{load_of}
+use Rattle.sv_workload.specs.Meaning.{workload_of}
 use Rattle.sv_workload.specs.Checks.{fault_of}
 
 -- all lines but the remarks
 abbrev pub said : List (List ℕ) → List Line
-said lines = map line_of (filter (λ line. not (is_remark line)) lines)
+said lines = map line_from (filter (λ line. not (is_remark line)) lines)
 
 -- what is wrong with a line after these lines, if anything is
 abbrev pub fault_at : List (List ℕ) → List ℕ → Option LineFault
-fault_at before line = if is_remark line then None else fault_of (said before) (line_of line)
+fault_at before line = if is_remark line then None else fault_of (said before) (line_from line)
 
 -- the first line with a fault among those that follow the lines before, by its number among all of
 -- them
@@ -38,7 +38,7 @@ first_reason text = option_map (λ found. (found.0, reason_of found.1)) (first_f
 -- the text is of the language, and this is what it says
 pub record IsWorkload (text : List ℕ) (load : Load) : Type 0 where
   pub good : first_fault text ≡ None
-  pub meaning : load ≡ load_of (said (lines_of text))
+  pub meaning : load ≡ workload_of (said (lines_of text))
 
 -- the line at this place has the fault, and no line before it has one
 pub record IsFirstFault (text : List ℕ) (place : ℕ) (fault : LineFault) : Type 0 where

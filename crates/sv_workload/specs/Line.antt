@@ -7,7 +7,7 @@ use Rattle.sv_workload.specs.declared.keyword.Keyword.{Keyword}
 use Rattle.sv_workload.specs.declared.keyword.Keyword.TheVariants.{Unknown}
 use Rattle.sv_workload.specs.Keywords.{step_keywords, other_keywords, keyword_among}
 use Rattle.sv_workload.specs.Forms.{form_of}
-use Rattle.sv_workload.specs.Words.{words_of, number_of}
+use Rattle.sv_text.specs.Words.{words_of, number_of}
 
 -- a line that is no remark
 pub record Line : Type 0 where
@@ -31,8 +31,8 @@ step_line (advance ∷ word ∷ words) =
     record { advance = Some advance; keyword = keyword_among step_keywords word; words = words }
 
 -- a digit in front makes it a step
-abbrev pub line_of : List ℕ → Line
-line_of bytes =
+abbrev pub line_from : List ℕ → Line
+line_from bytes =
     if is_ascii_digit (slice_index bytes 0) then step_line (words_of bytes) else other_line
     (words_of bytes)
 
@@ -43,5 +43,5 @@ numbers_of line =
     (take (length form.numbers + length form.more) line.words)
 
 -- the text after the keyword and its numbers, with all its spaces
-abbrev pub text_of : Line → List ℕ
-text_of line = join_with_byte 32 (drop (length (form_of line.keyword).numbers) line.words)
+abbrev pub text_after : Line → List ℕ
+text_after line = join_with_byte 32 (drop (length (form_of line.keyword).numbers) line.words)

@@ -7,13 +7,13 @@ use Rattle.sv_prim.specs.Number.{number_spelling}
 use Rattle.sv_prim.specs.Shrink.{shrunk}
 use Rattle.sv_packet.specs.declared.event.Event.TheVariants as event
 use Rattle.sv_desc.specs.Modules.{ModuleRow}
-use Rattle.sv_workload.specs.declared.load.Step.{Step}
-use Rattle.sv_workload.specs.declared.load.Task.{Task}
-use Rattle.sv_workload.specs.declared.load.Command.{Command}
-use Rattle.sv_workload.specs.declared.load.Action.{Action}
-use Rattle.sv_workload.specs.declared.load.Action.TheVariants as action
-use Rattle.sv_workload.specs.declared.load.Act.{Act}
-use Rattle.sv_workload.specs.declared.load.Act.TheVariants as act
+use Rattle.sv_load.specs.declared.load.Step.{Step}
+use Rattle.sv_load.specs.declared.load.Task.{Task}
+use Rattle.sv_load.specs.declared.load.Command.{Command}
+use Rattle.sv_load.specs.declared.load.Action.{Action}
+use Rattle.sv_load.specs.declared.load.Action.TheVariants as action
+use Rattle.sv_load.specs.declared.load.Act.{Act}
+use Rattle.sv_load.specs.declared.load.Act.TheVariants as act
 use Rattle.sv_workload.specs.declared.keyword.SetupWord.{SetupWord}
 use Rattle.sv_workload.specs.declared.keyword.SetupWord.TheVariants as setup
 use Rattle.sv_workload.specs.declared.keyword.ActWord.{ActWord}
@@ -27,9 +27,9 @@ use Rattle.sv_workload.specs.declared.keyword.Keyword.{Keyword}
 use Rattle.sv_workload.specs.declared.keyword.Keyword.TheVariants as keyword
 use Rattle.sv_workload.specs.Keywords.{is_same}
 use Rattle.sv_workload.specs.Forms.{form_of}
-use Rattle.sv_workload.specs.Words.{number_of}
-use Rattle.sv_workload.specs.Line.{Line, numbers_of, text_of}
-use Rattle.sv_workload.specs.Load.{Load}
+use Rattle.sv_text.specs.Words.{number_of}
+use Rattle.sv_workload.specs.Line.{Line, numbers_of, text_after}
+use Rattle.sv_load.specs.Load.{Load}
 
 -- this keyword stands in the line
 abbrev pub says : Keyword → Line → Bool
@@ -58,15 +58,15 @@ told word lines = option_map (λ line. number line 0) (find (says (keyword.Setup
 abbrev pub setting : SetupWord → ℕ → List Line → ℕ
 setting word default lines = unwrap_or (told word lines) default
 
-abbrev pub base_of : List Line → ℕ
-base_of lines = setting setup.Base 536870912 lines
+abbrev pub base_in : List Line → ℕ
+base_in lines = setting setup.Base 536870912 lines
 
-abbrev pub shift_of : List Line → ℕ
-shift_of lines = setting setup.Shift 2 lines
+abbrev pub shift_in : List Line → ℕ
+shift_in lines = setting setup.Shift 2 lines
 
 -- a task goes by its identifier as the line has it
-abbrev pub task_of : Line → Task
-task_of line =
+abbrev pub task_in : Line → Task
+task_in line =
     record {
       id = number line 0;
       priority = number line 1;
@@ -74,21 +74,21 @@ task_of line =
       stack_size =
           number line 3;
       extra = number line 4;
-      name = text_of line;
+      name = text_after line;
     }
 
-abbrev pub tasks_of : List Line → List Task
-tasks_of lines = map task_of (those (keyword.Setup setup.Task) lines)
+abbrev pub tasks_in : List Line → List Task
+tasks_in lines = map task_in (those (keyword.Setup setup.Task) lines)
 
 abbrev pub row_of : Line → ModuleRow
-row_of line = record { events = number line 0; name = text_of line }
+row_of line = record { events = number line 0; name = text_after line }
 
 abbrev pub modules_of : List Line → List ModuleRow
 modules_of lines = map row_of (those (keyword.Setup setup.Module) lines)
 
 -- the texts that describe the target
 abbrev pub descriptions_of : List Line → List (List ℕ)
-descriptions_of lines = map text_of (those (keyword.Setup setup.Desc) lines)
+descriptions_of lines = map text_after (those (keyword.Setup setup.Desc) lines)
 
 -- a command without a parameter has 0 for it
 abbrev pub command_of : Line → Command
@@ -98,29 +98,29 @@ abbrev pub commands_of : List Line → List Command
 commands_of lines = map command_of (those (keyword.Setup setup.Command) lines)
 
 -- what a step does with these numbers, the identifier among them shrunk by now, and this text
-abbrev pub act_of : ActWord → List ℕ → List ℕ → Act
-act_of Start ns text = act.Start
-act_of Stop ns text = act.Stop
-act_of Nop ns text = act.Event event.Nop
-act_of Isr ns text = act.Event (event.IsrEnter (slice_index ns 0))
-act_of IsrExit ns text = act.Event event.IsrExit
-act_of Run ns text = act.Event (event.TaskStart (slice_index ns 0))
-act_of Halt ns text = act.Event event.TaskStop
-act_of Ready ns text = act.Event (event.TaskReady (slice_index ns 0))
-act_of Unready ns text = act.Event (event.TaskUnready (slice_index ns 0) (slice_index ns 1))
-act_of Create ns text = act.Event (event.TaskCreate (slice_index ns 0))
-act_of Terminate ns text = act.Event (event.TaskTerminate (slice_index ns 0))
-act_of Mark ns text = act.Event (event.MarkStart (slice_index ns 0))
-act_of MarkEnd ns text = act.Event (event.MarkStop (slice_index ns 0))
-act_of Idle ns text = act.Event event.Idle
-act_of Sched ns text = act.Event event.ToScheduler
-act_of Timer ns text = act.Event (event.TimerEnter (slice_index ns 0))
-act_of TimerExit ns text = act.Event event.TimerExit
-act_of Name ns text = act.Event (event.NameResource (slice_index ns 0) text)
-act_of Print ns text = act.Event (event.Print text 0 [])
-act_of Call ns text =
+abbrev pub act_with : ActWord → List ℕ → List ℕ → Act
+act_with Start ns text = act.Start
+act_with Stop ns text = act.Stop
+act_with Nop ns text = act.Event event.Nop
+act_with Isr ns text = act.Event (event.IsrEnter (slice_index ns 0))
+act_with IsrExit ns text = act.Event event.IsrExit
+act_with Run ns text = act.Event (event.TaskStart (slice_index ns 0))
+act_with Halt ns text = act.Event event.TaskStop
+act_with Ready ns text = act.Event (event.TaskReady (slice_index ns 0))
+act_with Unready ns text = act.Event (event.TaskUnready (slice_index ns 0) (slice_index ns 1))
+act_with Create ns text = act.Event (event.TaskCreate (slice_index ns 0))
+act_with Terminate ns text = act.Event (event.TaskTerminate (slice_index ns 0))
+act_with Mark ns text = act.Event (event.MarkStart (slice_index ns 0))
+act_with MarkEnd ns text = act.Event (event.MarkStop (slice_index ns 0))
+act_with Idle ns text = act.Event event.Idle
+act_with Sched ns text = act.Event event.ToScheduler
+act_with Timer ns text = act.Event (event.TimerEnter (slice_index ns 0))
+act_with TimerExit ns text = act.Event event.TimerExit
+act_with Name ns text = act.Event (event.NameResource (slice_index ns 0) text)
+act_with Print ns text = act.Event (event.Print text 0 [])
+act_with Call ns text =
     act.Event (event.Opaque (slice_index ns 0) (flat_map number_spelling (drop 1 ns)))
-act_of Return ns text = act.Event (event.EndCall (slice_index ns 0) (slice_get ns 1))
+act_with Return ns text = act.Event (event.EndCall (slice_index ns 0) (slice_get ns 1))
 
 -- the numbers as the target sends them: an identifier goes first, and is shrunk
 abbrev pub with_shrunk : Bool → ℕ → ℕ → List ℕ → List ℕ
@@ -132,18 +132,18 @@ with_shrunk false base shift ns = ns
 abbrev pub step_by : Keyword → ℕ → ℕ → Line → Option Step
 step_by (keyword.Act word) base shift line = Some (record {
   advance = unwrap_or (option_and_then number_of line.advance) 0;
-  act = act_of word (with_shrunk (form_of (keyword.Act word)).identifier base shift
-      (numbers_of line)) (text_of line);
+  act = act_with word (with_shrunk (form_of (keyword.Act word)).identifier base shift
+      (numbers_of line)) (text_after line);
 })
 step_by _ base shift line = None
 
-abbrev pub step_of : ℕ → ℕ → Line → Option Step
-step_of base shift line = step_by line.keyword base shift line
+abbrev pub step_in : ℕ → ℕ → Line → Option Step
+step_in base shift line = step_by line.keyword base shift line
 
 -- each line `writer` begins a script, and the steps up to the next one are its own
 abbrev pub scripts_of : List Line → List (List Step)
 scripts_of lines =
-    map (filter_map (step_of (base_of lines) (shift_of lines)))
+    map (filter_map (step_in (base_in lines) (shift_in lines)))
     (drop 1 (slice_split (says keyword.Writer) lines))
 
 -- the turn that a line of the schedule gives away; other lines give none
@@ -158,16 +158,16 @@ abbrev pub action_of : Line → Option Action
 action_of line = action_by line.keyword (numbers_of line)
 
 -- the workload of these lines
-abbrev pub load_of : List Line → Load
-load_of lines = record {
+abbrev pub workload_of : List Line → Load
+workload_of lines = record {
   ring = setting setup.Ring 1024 lines;
   clock = setting setup.Clock 1000000 lines;
   cpu = setting setup.Cpu 1000000 lines;
-  base = base_of lines;
-  shift = shift_of lines;
+  base = base_in lines;
+  shift = shift_in lines;
   timed = is_there (keyword.Setup setup.Time) lines;
   lines = descriptions_of lines;
-  tasks = tasks_of lines;
+  tasks = tasks_in lines;
   modules = modules_of lines;
   commands = commands_of lines;
   scripts = scripts_of lines;

@@ -1,6 +1,6 @@
 -- The numbers of a line as the program holds them.
 use Rattle.std.specs.Prelude.{ℕ, ◌-◌, ◌^◌, List, min, unwrap_or}
-use Rattle.sv_workload.specs.Words.{number_of}
+use Rattle.sv_text.specs.Words.{number_of}
 
 -- in 32 bits; a greater number counts as the greatest that they hold
 abbrev pub capped : ℕ → ℕ

@@ -4,13 +4,13 @@ ghost use Rattle.sv_prim.specs.Number.{numbers_spelling};
 ghost use Rattle.sv_workload.specs.declared.keyword.ActWord.TheVariants.{Call, Name, Print};
 ghost use Rattle.sv_workload.specs.declared.keyword.Keyword.TheVariants as keyword;
 ghost use Rattle.sv_workload.specs.Forms.{form_of};
-ghost use Rattle.sv_workload.specs.Meaning.{act_of, with_shrunk};
+ghost use Rattle.sv_workload.specs.Meaning.{act_with, with_shrunk};
 
 use crate::form::form_of;
 use crate::keyword::{ActWord, Keyword};
-use crate::load::Act;
 use crate::numbers::number_or;
 use std::alloc::Global;
+use sv_load::Act;
 use sv_packet::Event;
 use sv_prim::{Buf, Bytes, NoMemory, Numbers, put_u32, shrink};
 
@@ -42,7 +42,7 @@ fn payload(alloc: Global, numbers: &[u32]) -> Result<Bytes, NoMemory>
 
 /// A step that names a resource.
 fn name(alloc: Global, resource: u32, text: &[u8]) -> Result<Act, NoMemory>
-    ensures { IfOk result (λ a. a ≡ act_of Name (resource ∷ []) text.now) }
+    ensures { IfOk result (λ a. a ≡ act_with Name (resource ∷ []) text.now) }
 {
     let text = Bytes::new(alloc, text)?;
     Ok(Act::Event(Event::NameResource { resource, text }))
@@ -50,7 +50,7 @@ fn name(alloc: Global, resource: u32, text: &[u8]) -> Result<Act, NoMemory>
 
 /// A step that prints a text.
 fn print(alloc: Global, text: &[u8]) -> Result<Act, NoMemory>
-    ensures { (numbers : List ℕ) → IfOk result (λ a. a ≡ act_of Print numbers text.now) }
+    ensures { (numbers : List ℕ) → IfOk result (λ a. a ≡ act_with Print numbers text.now) }
 {
     let text = Bytes::new(alloc, text)?;
     Ok(Act::Event(Event::Print {
@@ -64,7 +64,7 @@ fn print(alloc: Global, text: &[u8]) -> Result<Act, NoMemory>
 fn call(alloc: Global, event: u32, numbers: &[u32]) -> Result<Act, NoMemory>
     requires event { event ≤ 16383 }
     requires few { length numbers.now ≤ 8 }
-    ensures { (text : List ℕ) → IfOk result (λ a. a ≡ act_of Call (event ∷ numbers.now) text) }
+    ensures { (text : List ℕ) → IfOk result (λ a. a ≡ act_with Call (event ∷ numbers.now) text) }
 {
     let payload = payload(alloc, numbers)?;
     Ok(Act::Event(Event::Opaque {
@@ -84,7 +84,7 @@ fn act_by(
 ) -> Result<Act, NoMemory>
     requires event { word ≡ Call → first ≤ 16383 }
     requires few { word ≡ Call → length rest.now ≤ 8 }
-    ensures { IfOk result (λ a. a ≡ act_of word (first ∷ rest.now) text.now) }
+    ensures { IfOk result (λ a. a ≡ act_with word (first ∷ rest.now) text.now) }
 {
     match word {
         ActWord::Start => Ok(Act::Start),
@@ -131,7 +131,7 @@ pub fn act(
     requires shift { shift ≤ 31 }
     requires event { word ≡ Call → slice_index numbers.now 0 ≤ 16383 }
     requires few { word ≡ Call → length numbers.now ≤ 9 }
-    ensures { IfOk result (λ a. a ≡ act_of word
+    ensures { IfOk result (λ a. a ≡ act_with word
         (with_shrunk (form_of (keyword.Act word)).identifier base shift numbers.now) text.now) }
 {
     match numbers {

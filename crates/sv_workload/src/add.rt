@@ -4,20 +4,20 @@ ghost use Rattle.std.specs.List.{list_all};
 ghost use Rattle.sv_workload.specs.declared.keyword.Keyword.{Keyword};
 ghost use Rattle.sv_workload.specs.declared.keyword.Keyword.TheVariants.{Setup, Act, Turn};
 ghost use Rattle.sv_workload.specs.Forms.{is_in, form_of};
-ghost use Rattle.sv_workload.specs.Need.{one_if, is_start_act, IsStepAct, IsTask, HasWords, IsTurn};
-ghost use Rattle.sv_workload.specs.Need.{IsAsked};
+ghost use Rattle.sv_load.specs.Need.{one_if, is_start_act, IsStepAct, IsTask, HasWords, IsTurn};
+ghost use Rattle.sv_load.specs.Need.{IsAsked};
 ghost use Rattle.sv_workload.specs.Settings.{tell};
-ghost use Rattle.sv_workload.specs.Scripts.{onto_last, over_scripts};
-ghost use Rattle.sv_workload.specs.Draft.{IsGoodAfter, HasTaken};
+ghost use Rattle.sv_load.specs.Scripts.{onto_last, over_scripts};
+ghost use Rattle.sv_workload.specs.Draft.{IsGoodAfter, TakesLine};
 ghost use Rattle.sv_desc.specs.Modules.{is_full_for};
-ghost use Rattle.sv_workload.specs.Limits.{most_steps, most_starts, most_ticks};
+ghost use Rattle.sv_load.specs.Limits.{most_steps, most_starts, most_ticks};
 
 use crate::draft::Draft;
 use crate::keyword::{ActWord, Keyword, SetupWord};
-use crate::load::{Action, Command, Step, Task};
 use crate::parts::{action, command, step, task};
 use crate::read_line::ReadLine;
 use std::alloc::Global;
+use sv_load::{Action, Command, Step, Task};
 use sv_prim::{Bytes, NoMemory};
 
 impl Draft {
@@ -33,7 +33,7 @@ impl Draft {
     fn add_time(&mut self)
         ensures { self.new ≡ record self.old { timed = true } }
     {
-        self.timed = true;
+        self.parts.set_timed();
     }
 
     /// One more line that describes the target, after the others.
@@ -43,12 +43,7 @@ impl Draft {
         requires short { length text ≤ 128 }
         ensures { OnOk result (self.new ≡ record self.old { lines = self.old.lines ++ text ∷ [] }) }
     {
-        // A text is made of bytes, by what its type keeps.
-        let _ = text.bytes();
-        if self.lines.push(text).is_err() {
-            return Err(NoMemory);
-        }
-        Ok(())
+        self.parts.add_line(text)
     }
 
     /// One more module, after the others.
@@ -59,10 +54,7 @@ impl Draft {
         ensures { self.new ≡ record self.old
             { modules = self.old.modules ++ record { events = events; name = name } ∷ [] } }
     {
-        match self.modules.register(name, events) {
-            Ok(_) => {}
-            Err(_) => unreachable!(),
-        }
+        self.parts.add_module(name, events);
     }
 
     /// One more command, after the others.
@@ -72,10 +64,7 @@ impl Draft {
         ensures { OnOk result
             (self.new ≡ record self.old { commands = self.old.commands ++ command ∷ [] }) }
     {
-        if self.commands.push(command).is_err() {
-            return Err(NoMemory);
-        }
-        Ok(())
+        self.parts.add_command(command)
     }
 
     /// One more task, after the others.
@@ -85,11 +74,7 @@ impl Draft {
         requires words { HasWords task }
         ensures { OnOk result (self.new ≡ record self.old { tasks = self.old.tasks ++ task ∷ [] }) }
     {
-        let _ = task.name.bytes();
-        if self.tasks.push(task).is_err() {
-            return Err(NoMemory);
-        }
-        Ok(())
+        self.parts.add_task(task)
     }
 
     /// One more writer, without a step so far.
@@ -98,7 +83,7 @@ impl Draft {
         ensures { OnOk result
             (self.new ≡ record self.old { scripts = self.old.scripts ++ [] ∷ [] }) }
     {
-        self.scripts.open(alloc)
+        self.parts.add_writer(alloc)
     }
 
     /// One more step for the writer that was named last.
@@ -113,14 +98,14 @@ impl Draft {
         ensures { OnOk result
             (self.new ≡ record self.old { scripts = onto_last step self.old.scripts }) }
     {
-        self.scripts.push(step)
+        self.parts.add_step(step)
     }
 
     /// There is a schedule from now on.
     pub fn add_schedule(&mut self)
         ensures { self.new ≡ record self.old { scheduled = true } }
     {
-        self.scheduled = true;
+        self.parts.set_scheduled();
     }
 
     /// One more turn, after the others.
@@ -130,10 +115,7 @@ impl Draft {
         ensures { OnOk result
             (self.new ≡ record self.old { schedule = self.old.schedule ++ action ∷ [] }) }
     {
-        if self.schedule.push(action).is_err() {
-            return Err(NoMemory);
-        }
-        Ok(())
+        self.parts.add_turn(action)
     }
 
     /// Adds what a line about the target, a task or the host says.
@@ -145,7 +127,7 @@ impl Draft {
     ) -> Result<(), NoMemory>
         requires keyword { line.now.keyword ≡ Setup word }
         requires good { IsGoodAfter self.old line.now }
-        ensures { OnOk result (HasTaken self.old self.new line.now) }
+        ensures { OnOk result (TakesLine self.old self.new line.now) }
     {
         match word {
             SetupWord::Time => {
@@ -178,7 +160,7 @@ impl Draft {
     fn add_act(&mut self, alloc: Global, line: &ReadLine<'_>, word: ActWord) -> Result<(), NoMemory>
         requires keyword { line.now.keyword ≡ Act word }
         requires good { IsGoodAfter self.old line.now }
-        ensures { OnOk result (HasTaken self.old self.new line.now) }
+        ensures { OnOk result (TakesLine self.old self.new line.now) }
     {
         let base = self.settings.base();
         let shift = self.settings.shift();
@@ -190,7 +172,7 @@ impl Draft {
     #[inline(always)]
     pub fn add(&mut self, alloc: Global, line: &ReadLine<'_>) -> Result<(), NoMemory>
         requires good { IsGoodAfter self.old line.now }
-        ensures { OnOk result (HasTaken self.old self.new line.now) }
+        ensures { OnOk result (TakesLine self.old self.new line.now) }
     {
         match line.keyword() {
             Keyword::Setup(word) => self.add_setup(alloc, line, word),
@@ -201,8 +183,8 @@ impl Draft {
                 Ok(())
             }
             Keyword::Turn(word) => {
-                // By the draft's invariant there are few writers, so the turn's number is whole.
-                let _ = &self.schedule;
+                // There are few writers, so that the turn's number is whole.
+                let _ = self.parts.writers();
                 self.add_turn(action(line, word))
             }
             Keyword::Unknown => Ok(()),

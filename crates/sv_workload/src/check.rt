@@ -1,11 +1,12 @@
 //! What is wrong with a line after the lines of a draft: the checks in their order.
 ghost use Rattle.std.specs.Prelude.{◌≡◌, List, [], IfNone, false};
 ghost use Rattle.sv_workload.specs.Line.{Line};
-ghost use Rattle.sv_workload.specs.Checks.{is_unknown, is_misplaced, has_bad_number};
+ghost use Rattle.sv_workload.specs.Checks.{lacks_keyword, is_misplaced, has_bad_number};
 ghost use Rattle.sv_workload.specs.Checks.{is_unaligned, is_repeated, is_too_many, has_no_writer};
 ghost use Rattle.sv_workload.specs.Checks.{has_no_room, fault_of};
 ghost use Rattle.sv_workload.specs.Draft.{Stands};
-ghost use Rattle.sv_workload.specs.Checking.{is_no_keyword, first_of, form_checks, later_checks};
+ghost use Rattle.sv_workload.specs.Checking.{is_no_keyword, first_failed, form_checks};
+ghost use Rattle.sv_workload.specs.Checking.{later_checks};
 
 use crate::draft::Draft;
 use crate::fault::LineFault;
@@ -26,8 +27,8 @@ fn is_no_keyword(keyword: Keyword) -> bool
 
 /// Whether no keyword stands where it should.
 #[inline(always)]
-fn is_unknown(line: &ReadLine<'_>) -> bool
-    ensures { (lines : List Line) → result ≡ is_unknown lines line.now }
+fn lacks_keyword(line: &ReadLine<'_>) -> bool
+    ensures { (lines : List Line) → result ≡ lacks_keyword lines line.now }
 {
     is_no_keyword(line.keyword())
 }
@@ -95,10 +96,10 @@ impl Draft {
     #[inline(always)]
     fn form_fault(&self, line: &ReadLine<'_>) -> Option<LineFault>
         ensures first { (lines : List Line) → Stands self.now lines
-            → result ≡ first_of form_checks lines line.now }
+            → result ≡ first_failed form_checks lines line.now }
         ensures good { IfNone result (has_bad_number [] line.now ≡ false) }
     {
-        if is_unknown(line) {
+        if lacks_keyword(line) {
             return Some(LineFault::UnknownWord);
         }
         if self.is_misplaced(line) {
@@ -121,7 +122,7 @@ impl Draft {
     fn later_fault(&self, line: &ReadLine<'_>) -> Option<LineFault>
         requires good { has_bad_number [] line.now ≡ false }
         ensures { (lines : List Line) → Stands self.now lines
-            → result ≡ first_of later_checks lines line.now }
+            → result ≡ first_failed later_checks lines line.now }
     {
         if self.is_unaligned(line) {
             return Some(LineFault::Unaligned);

@@ -2,19 +2,18 @@
 ghost use Rattle.std.specs.Prelude.{◌≡◌, ◌==◌, ◌&&◌, length, if◌then◌else◌};
 ghost use Rattle.std.specs.List.{list_all};
 ghost use Rattle.sv_workload.specs.Checks.{is_word, fits_command};
-ghost use Rattle.sv_workload.specs.Checking.{is_command};
+ghost use Rattle.sv_workload.specs.Checking.{is_command_word};
 
 use crate::keyword::{Keyword, SetupWord};
-use crate::number::capped_number;
-use crate::words::Words;
+use sv_text::{Words, capped_number};
 
 /// The bytes from here on have a parameter.
 const FIRST_WITH_PARAM: u64 = 128;
 
 /// Whether the keyword is that of a command.
 #[inline(always)]
-pub fn is_command(keyword: Keyword) -> bool
-    ensures { result ≡ is_command keyword }
+pub fn is_command_word(keyword: Keyword) -> bool
+    ensures { result ≡ is_command_word keyword }
 {
     match keyword {
         Keyword::Setup(SetupWord::Command) => true,

@@ -5,57 +5,47 @@ ghost use Rattle.sv_workload.specs.Checking.{is_told};
 
 use crate::fault::LineFault;
 use crate::keyword::{ActWord, Keyword, SetupWord, TurnWord};
-use crate::limits::{
-    MOST_COMMANDS, MOST_LINES, MOST_MODULES, MOST_STARTS, MOST_STEPS, MOST_TASKS, MOST_WRITERS,
-};
-use crate::lines::is_remark;
-use crate::load::{Action, Command, Need, Task};
 use crate::read_line::ReadLine;
-use crate::scripts::Scripts;
 use crate::settings::Settings;
 use std::alloc::Global;
 use std::marker::Model;
-use sv_desc::Modules;
-use sv_prim::{Bytes, NoMemory, aligned};
+use sv_load::{
+    Builder, MOST_COMMANDS, MOST_LINES, MOST_MODULES, MOST_STARTS, MOST_STEPS, MOST_TASKS,
+    MOST_WRITERS, Workload,
+};
+use sv_prim::{NoMemory, aligned};
+use sv_text::is_remark;
 
 /// A workload in the making: what the lines so far told.
 #[derive(Drop)]
 pub struct Draft {
     pub settings: Settings,
-    pub timed: bool,
-    pub lines: Vec<Bytes>,
-    pub tasks: Vec<Task>,
-    pub modules: Modules,
-    pub commands: Vec<Command>,
-    pub scripts: Scripts,
-    pub scheduled: bool,
-    pub schedule: Vec<Action>,
+    pub parts: Builder,
 }
 
 impl Model for Draft {
-    ghost use Rattle.sv_workload.specs.Draft.{Draft, IsSound};
+    ghost use Rattle.sv_workload.specs.Settings.{AreInRange};
+    ghost use Rattle.sv_workload.specs.Draft.{Draft};
 
     ghost Value = { Draft };
 
     ghost view = { λ d. record {
       settings = d.settings;
-      timed = d.timed;
-      lines = d.lines.items;
-      tasks = d.tasks.items;
-      modules = d.modules;
-      commands = d.commands.items;
-      scripts = d.scripts;
-      scheduled = d.scheduled;
-      schedule = d.schedule.items;
+      timed = d.parts.timed;
+      lines = d.parts.lines;
+      tasks = d.parts.tasks;
+      modules = d.parts.modules;
+      commands = d.parts.commands;
+      scripts = d.parts.scripts;
+      scheduled = d.parts.scheduled;
+      schedule = d.parts.schedule;
     } };
 
-    ghost invariant = { λ d. IsSound d.settings d.lines.items d.tasks.items d.commands.items
-        d.scripts d.schedule.items };
+    ghost invariant = { λ d. AreInRange d.settings };
 }
 
 impl Draft {
     ghost use Rattle.sv_workload.specs.Settings.{nothing_told};
-    ghost use Rattle.sv_workload.specs.Need.{HasNeed, replies_in};
     ghost use Rattle.sv_workload.specs.Draft.{load_by};
 
     /// No line is read yet.
@@ -74,34 +64,22 @@ impl Draft {
     {
         Draft {
             settings: Settings::new(),
-            timed: false,
-            lines: Vec::new(alloc),
-            tasks: Vec::new(alloc),
-            modules: Modules::new(alloc),
-            commands: Vec::new(alloc),
-            scripts: Scripts::new(alloc),
-            scheduled: false,
-            schedule: Vec::new(alloc),
+            parts: Builder::new(alloc),
         }
     }
 
-    /// How many packets a start or a command records at most.
-    fn replies(&self) -> u64
-        ensures count { result ≡ replies_in (load_by self.now) }
-        ensures few { result ≤ 136 }
+    /// The workload that the lines told.
+    pub fn into_workload(self) -> Workload
+        ensures { result ≡ load_by self }
     {
-        let modules = u64::from(self.modules.count());
-        4 + self.lines.len() as u64 + 2 * self.tasks.len() as u64 + modules
-    }
-
-    /// How many items and bytes a journal of the workload and its stream have at most.
-    pub fn need(&self) -> Need
-        ensures { HasNeed (load_by self.now) result }
-    {
-        // By what the modules keep, they are few and have short names.
-        let _ = self.modules.count();
-        self.scripts
-            .need(self.replies(), self.commands.len() as u64)
+        let settings = self.settings;
+        let mut parts = self.parts;
+        parts.set_ring(settings.ring());
+        parts.set_clock(settings.clock());
+        parts.set_cpu(settings.cpu());
+        parts.set_base(settings.base());
+        parts.set_shift(settings.shift());
+        parts.build()
     }
 }
 
@@ -155,9 +133,9 @@ impl Draft {
         ensures { result ≡ has_place self.now keyword }
     {
         may_stand(
-            self.scripts.writers() > 0,
-            !self.tasks.is_empty(),
-            self.scheduled,
+            self.parts.writers() > 0,
+            !self.parts.tasks().is_empty(),
+            self.parts.scheduled(),
             keyword,
         )
     }
@@ -167,7 +145,7 @@ impl Draft {
     pub fn has_all_steps(&self) -> bool
         ensures { result ≡ has_all_steps self.now }
     {
-        self.scripts.steps() >= u64::from(MOST_STEPS)
+        self.parts.steps() >= u64::from(MOST_STEPS)
     }
 
     /// Whether a further line with this keyword is beyond the limits.
@@ -176,15 +154,15 @@ impl Draft {
         ensures { result ≡ has_all self.now keyword }
     {
         match keyword {
-            Keyword::Setup(SetupWord::Desc) => self.lines.len() >= MOST_LINES,
-            Keyword::Setup(SetupWord::Task) => self.tasks.len() >= MOST_TASKS,
-            Keyword::Setup(SetupWord::Module) => self.modules.count() >= MOST_MODULES,
-            Keyword::Setup(SetupWord::Command) => self.commands.len() >= MOST_COMMANDS,
-            Keyword::Writer => self.scripts.writers() >= MOST_WRITERS,
+            Keyword::Setup(SetupWord::Desc) => self.parts.lines().len() >= MOST_LINES,
+            Keyword::Setup(SetupWord::Task) => self.parts.tasks().len() >= MOST_TASKS,
+            Keyword::Setup(SetupWord::Module) => self.parts.modules().count() >= MOST_MODULES,
+            Keyword::Setup(SetupWord::Command) => self.parts.commands().len() >= MOST_COMMANDS,
+            Keyword::Writer => self.parts.writers() >= MOST_WRITERS,
             Keyword::Act(ActWord::Start) => self.has_all_steps()
-                || self.scripts.starts() >= MOST_STARTS,
+                || self.parts.starts() >= MOST_STARTS,
             Keyword::Act(_) => self.has_all_steps(),
-            Keyword::Turn(_) => self.schedule.len() >= MOST_STEPS as usize,
+            Keyword::Turn(_) => self.parts.schedule().len() >= MOST_STEPS as usize,
             _ => false,
         }
     }
@@ -193,7 +171,7 @@ impl Draft {
     pub fn has_task(&self, id: u32) -> bool
         ensures { result ≡ list_any (λ task. task.id == id) self.now.tasks }
     {
-        self.tasks.iter().any(|task| task.id == id)
+        self.parts.tasks().iter().any(|task| task.id == id)
     }
 
     /// Whether a keyword's setting, the line `time`, or a task's identifier, was told.
@@ -202,7 +180,7 @@ impl Draft {
         ensures { result ≡ repeats self.now keyword id }
     {
         match keyword {
-            Keyword::Setup(SetupWord::Time) => self.timed,
+            Keyword::Setup(SetupWord::Time) => self.parts.timed(),
             Keyword::Setup(SetupWord::Task) => self.has_task(id),
             keyword => is_told(&self.settings, keyword),
         }
@@ -232,7 +210,7 @@ impl Draft {
         ensures told { result ≡ lacks_writer self.now keyword writer }
         ensures few { length self.now.scripts ≤ 16 }
     {
-        let writers = self.scripts.writers();
+        let writers = self.parts.writers();
         match keyword {
             Keyword::Turn(TurnWord::Step) => writer >= writers,
             _ => false,
@@ -245,7 +223,7 @@ impl Draft {
         ensures { result ≡ lacks_room self.now keyword events }
     {
         match keyword {
-            Keyword::Setup(SetupWord::Module) => self.modules.is_full_for(events),
+            Keyword::Setup(SetupWord::Module) => self.parts.modules().is_full_for(events),
             _ => false,
         }
     }
@@ -254,7 +232,7 @@ impl Draft {
 impl Draft {
     ghost use Rattle.std.specs.Prelude.{◌≡◌, List, ℕ, ◌∷◌, ◌++◌, [], Some, None, Ok};
     ghost use Rattle.sv_workload.specs.declared.fault.LineFault.{LineFault};
-    ghost use Rattle.sv_workload.specs.Line.{Line, line_of};
+    ghost use Rattle.sv_workload.specs.Line.{Line, line_from};
     ghost use Rattle.sv_workload.specs.Checks.{fault_of};
     ghost use Rattle.sv_workload.specs.Draft.{Stands};
     ghost use Rattle.sv_workload.specs.Grammar.{said, fault_at};
@@ -264,10 +242,10 @@ impl Draft {
     fn take_said(&mut self, alloc: Global, bytes: &[u8]) -> Result<Option<LineFault>, NoMemory>
         requires { (lines : List Line) × Stands self.old lines }
         ensures fault { (lines : List Line) (fault : LineFault) → Stands self.old lines
-            → result ≡ Ok (Some fault) → fault_of lines (line_of bytes.now) ≡ Some fault }
+            → result ≡ Ok (Some fault) → fault_of lines (line_from bytes.now) ≡ Some fault }
         ensures good { (lines : List Line) → Stands self.old lines → result ≡ Ok None
-            → (fault_of lines (line_of bytes.now) ≡ None)
-            × Stands self.new (lines ++ line_of bytes.now ∷ []) }
+            → (fault_of lines (line_from bytes.now) ≡ None)
+            × Stands self.new (lines ++ line_from bytes.now ∷ []) }
     {
         let line = ReadLine::of(bytes);
         if let Some(fault) = self.fault(&line) {

@@ -5,17 +5,16 @@ ghost use Rattle.std.specs.Option.{option_map_or};
 ghost use Rattle.sv_workload.specs.Checks.{is_word, is_within};
 ghost use Rattle.sv_workload.specs.Fields.{AreFieldsOf};
 ghost use Rattle.sv_workload.specs.Forms.{between, form_of};
-ghost use Rattle.sv_workload.specs.Limits.{most_ticks};
-ghost use Rattle.sv_workload.specs.Words.{number_of};
+ghost use Rattle.sv_load.specs.Limits.{most_ticks};
+ghost use Rattle.sv_text.specs.Words.{number_of};
 
 use crate::cut_line::CutLine;
 use crate::form::Form;
-use crate::limits::MOST_TICKS;
-use crate::number::capped_number;
 use crate::numbers::Numbers;
 use crate::range::Range;
-use crate::words::Words;
 use arrayvec::ArrayVec;
+use sv_load::MOST_TICKS;
+use sv_text::{Words, capped_number};
 
 /// What is read of a line besides its keyword.
 #[derive(Drop)]

@@ -1,11 +1,11 @@
 //! What stands after each keyword.
 ghost use Rattle.std.specs.Prelude.{◌≡◌};
-ghost use Rattle.sv_workload.specs.Forms.{bare, numbers, form_of};
+ghost use Rattle.sv_workload.specs.Forms.{bare, of_numbers, form_of};
 
 use crate::keyword::{ActWord, Keyword, SetupWord, TurnWord};
-use crate::limits::MOST_STEPS;
 use crate::range::Range;
 use std::marker::Model;
+use sv_load::MOST_STEPS;
 
 /// What stands after a keyword.
 #[derive(Drop)]
@@ -52,8 +52,8 @@ fn bare() -> Form
 }
 
 #[inline(always)]
-fn numbers(ranges: &'static [Range]) -> Form
-    ensures { result ≡ numbers ranges.now }
+fn of_numbers(ranges: &'static [Range]) -> Form
+    ensures { result ≡ of_numbers ranges.now }
 {
     Form {
         numbers: ranges,
@@ -66,16 +66,16 @@ fn setup_form(word: SetupWord) -> Form
     ensures { result ≡ form_of (Keyword.Setup word) }
 {
     match word {
-        SetupWord::Ring => numbers(&[Range {
+        SetupWord::Ring => of_numbers(&[Range {
             least: 64,
             most: Some(65536),
         }]),
-        SetupWord::Clock | SetupWord::Cpu => numbers(&[Range {
+        SetupWord::Clock | SetupWord::Cpu => of_numbers(&[Range {
             least: 1,
             most: Some(u32::MAX),
         }]),
-        SetupWord::Base => numbers(&[WORD]),
-        SetupWord::Shift => numbers(&[Range {
+        SetupWord::Base => of_numbers(&[WORD]),
+        SetupWord::Shift => of_numbers(&[Range {
             least: 0,
             most: Some(31),
         }]),
@@ -92,7 +92,7 @@ fn setup_form(word: SetupWord) -> Form
         },
         SetupWord::Module => Form {
             text: Some(128),
-            ..numbers(&[Range {
+            ..of_numbers(&[Range {
                 least: 0,
                 most: Some(16384),
             }])
@@ -102,7 +102,7 @@ fn setup_form(word: SetupWord) -> Form
                 least: 0,
                 most: Some(255),
             }],
-            ..numbers(&[Range {
+            ..of_numbers(&[Range {
                 least: 0,
                 most: Some(255),
             }])
@@ -124,15 +124,15 @@ fn act_form(word: ActWord) -> Form
         | ActWord::Idle
         | ActWord::Sched
         | ActWord::TimerExit => bare(),
-        ActWord::Isr | ActWord::Mark | ActWord::MarkEnd => numbers(&[WORD]),
+        ActWord::Isr | ActWord::Mark | ActWord::MarkEnd => of_numbers(&[WORD]),
         ActWord::Run | ActWord::Ready | ActWord::Create | ActWord::Terminate | ActWord::Timer =>
             Form {
                 identifier: true,
-                ..numbers(&[WORD])
+                ..of_numbers(&[WORD])
             },
         ActWord::Unready => Form {
             identifier: true,
-            ..numbers(&[WORD, WORD])
+            ..of_numbers(&[WORD, WORD])
         },
         ActWord::Name => Form {
             numbers: &[WORD],
@@ -146,14 +146,14 @@ fn act_form(word: ActWord) -> Form
         },
         ActWord::Call => Form {
             more: &[WORD, WORD, WORD, WORD, WORD, WORD, WORD, WORD],
-            ..numbers(&[Range {
+            ..of_numbers(&[Range {
                 least: 32,
                 most: Some(16383),
             }])
         },
         ActWord::Return => Form {
             more: &[WORD],
-            ..numbers(&[WORD])
+            ..of_numbers(&[WORD])
         },
     }
 }
@@ -168,9 +168,9 @@ fn turn_form(word: TurnWord) -> Form
                 least: 1,
                 most: Some(MOST_STEPS),
             }],
-            ..numbers(&[ANY])
+            ..of_numbers(&[ANY])
         },
-        TurnWord::Read => numbers(&[Range {
+        TurnWord::Read => of_numbers(&[Range {
             least: 1,
             most: Some(65536),
         }]),

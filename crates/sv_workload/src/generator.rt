@@ -1,18 +1,15 @@
 //! Workloads of any size, each made from a number.
 ghost use Rattle.std.specs.Prelude.{◌≡◌, ◌+◌, ◌*◌, ◌<◌, ◌≤◌, ◌^◌, [], ◌∷◌, true, false};
 ghost use Rattle.std.specs.Prelude.{◌/◌, length, OnOk, IfOk};
-ghost use Rattle.sv_workload.specs.declared.load.Act.TheVariants as act;
-ghost use Rattle.sv_workload.specs.declared.load.Action.TheVariants as action;
-ghost use Rattle.sv_workload.specs.Draft.{load_by};
-ghost use Rattle.sv_workload.specs.Need.{IsStepAct, need_items, need_bytes};
+ghost use Rattle.sv_load.specs.declared.load.Act.TheVariants as act;
+ghost use Rattle.sv_load.specs.declared.load.Action.TheVariants as action;
+ghost use Rattle.sv_load.specs.Need.{IsStepAct, need_items, need_bytes};
 ghost use Rattle.sv_workload.specs.Generated.{next_number, event_from, step_from, start_step};
 ghost use Rattle.sv_workload.specs.Generated.{steps_to, rounds, the_tasks, load_with};
 ghost use Rattle.sv_workload.specs.Generated.{generated_load};
 
-use crate::draft::Draft;
-use crate::keyword::SetupWord;
-use crate::load::{Act, Action, Step, Task, Workload};
 use std::alloc::Global;
+use sv_load::{Act, Action, Builder, Step, Task, Workload};
 use sv_packet::Event;
 use sv_prim::{Bytes, NoMemory};
 
@@ -85,80 +82,80 @@ fn task(
 }
 
 /// The two tasks are there.
-fn add_tasks(draft: &mut Draft, alloc: Global) -> Result<(), NoMemory>
-    requires { draft.old.tasks ≡ [] }
-    ensures { OnOk result (draft.new ≡ record draft.old { tasks = the_tasks }) }
+fn add_tasks(parts: &mut Builder, alloc: Global) -> Result<(), NoMemory>
+    requires { parts.old.tasks ≡ [] }
+    ensures { OnOk result (parts.new ≡ record parts.old { tasks = the_tasks }) }
 {
     let a = task(alloc, 536870916, 1, 536875008, b"A")?;
-    draft.add_task(a)?;
+    parts.add_task(a)?;
     let b = task(alloc, 536870920, 2, 536876032, b"B")?;
-    draft.add_task(b)
+    parts.add_task(b)
 }
 
 /// A workload whose writer has no step but the start.
-fn begun(alloc: Global) -> Result<Draft, NoMemory>
-    ensures { IfOk result (λ draft.
-        load_by draft ≡ load_with ((start_step ∷ []) ∷ []) false []) }
+fn begun(alloc: Global) -> Result<Builder, NoMemory>
+    ensures { IfOk result (λ parts.
+        parts ≡ load_with ((start_step ∷ []) ∷ []) false []) }
 {
-    let mut draft = Draft::new(alloc);
-    draft.add_setting(SetupWord::Ring, 4096);
-    add_tasks(&mut draft, alloc)?;
-    draft.add_writer(alloc)?;
+    let mut parts = Builder::new(alloc);
+    parts.set_ring(4096);
+    add_tasks(&mut parts, alloc)?;
+    parts.add_writer(alloc)?;
     let start = Step {
         advance: 0,
         act: Act::Start,
     };
-    draft.add_step(start)?;
-    Ok(draft)
+    parts.add_step(start)?;
+    Ok(parts)
 }
 
 /// The steps after the start.
-fn add_steps(draft: &mut Draft, n: u32) -> Result<(), NoMemory>
+fn add_steps(parts: &mut Builder, n: u32) -> Result<(), NoMemory>
     requires few { n ≤ 1000000 }
-    requires begun { draft.old.scripts ≡ (start_step ∷ []) ∷ [] }
+    requires begun { parts.old.scripts ≡ (start_step ∷ []) ∷ [] }
     ensures { OnOk result
-        (draft.new ≡ record draft.old { scripts = (start_step ∷ steps_to n n) ∷ [] }) }
+        (parts.new ≡ record parts.old { scripts = (start_step ∷ steps_to n n) ∷ [] }) }
 {
     let mut x = n;
     for _ in 0..n {
         x = next_number(x);
-        draft.add_step(step_from(x))?;
+        parts.add_step(step_from(x))?;
     }
     Ok(())
 }
 
 /// So many times 64 steps and a read, after the turns so far.
-fn add_rounds(draft: &mut Draft, count: u32) -> Result<(), NoMemory>
+fn add_rounds(parts: &mut Builder, count: u32) -> Result<(), NoMemory>
     requires few { count ≤ 15625 }
-    requires writer { length draft.old.scripts ≡ 1 }
-    requires begun { draft.old.schedule ≡ action.Step 0 1 ∷ [] }
+    requires writer { length parts.old.scripts ≡ 1 }
+    requires begun { parts.old.schedule ≡ action.Step 0 1 ∷ [] }
     ensures { OnOk result
-        (draft.new ≡ record draft.old { schedule = action.Step 0 1 ∷ rounds count }) }
+        (parts.new ≡ record parts.old { schedule = action.Step 0 1 ∷ rounds count }) }
 {
     for _ in 0..count {
-        draft.add_turn(Action::Step {
+        parts.add_turn(Action::Step {
             writer: 0,
             count: 64,
         })?;
-        draft.add_turn(Action::Read { most: 128 })?;
+        parts.add_turn(Action::Read { most: 128 })?;
     }
     Ok(())
 }
 
 /// The schedule: the start, and rounds for as many steps as fill one.
-fn add_schedule(draft: &mut Draft, n: u32) -> Result<(), NoMemory>
+fn add_schedule(parts: &mut Builder, n: u32) -> Result<(), NoMemory>
     requires few { n ≤ 1000000 }
-    requires writer { length draft.old.scripts ≡ 1 }
-    requires none { draft.old.schedule ≡ [] }
-    ensures { OnOk result (draft.new ≡ record draft.old
+    requires writer { length parts.old.scripts ≡ 1 }
+    requires none { parts.old.schedule ≡ [] }
+    ensures { OnOk result (parts.new ≡ record parts.old
         { scheduled = true; schedule = action.Step 0 1 ∷ rounds (n / 64) }) }
 {
-    draft.add_schedule();
-    draft.add_turn(Action::Step {
+    parts.set_scheduled();
+    parts.add_turn(Action::Step {
         writer: 0,
         count: 1,
     })?;
-    add_rounds(draft, n / 64)
+    add_rounds(parts, n / 64)
 }
 
 /// The workload of a number from 1 to 1000000: two tasks, and one writer that starts the recorder
@@ -171,8 +168,8 @@ pub fn generated(alloc: Global, n: u32) -> Result<Workload, NoMemory>
     ensures items { IfOk result (λ load. need_items load ≡ 3 * n + 21) }
     ensures bytes { IfOk result (λ load. need_bytes load ≤ 18 * n + 1291) }
 {
-    let mut draft = begun(alloc)?;
-    add_steps(&mut draft, n)?;
-    add_schedule(&mut draft, n)?;
-    Ok(Workload::of(draft))
+    let mut parts = begun(alloc)?;
+    add_steps(&mut parts, n)?;
+    add_schedule(&mut parts, n)?;
+    Ok(parts.build())
 }

@@ -21,27 +21,16 @@ mod form;
 mod generator;
 mod keyword;
 mod laws;
-mod limits;
 mod line_text;
-mod lines;
-mod load;
-mod number;
 mod numbers;
 mod parts;
 mod range;
 mod read_line;
-mod scripts;
 mod settings;
 mod text;
-mod words;
 
 pub use fault::{LineFault, WorkFault};
 pub use generator::generated;
-pub use laws::the_first_fault;
-pub use load::{Act, Action, Command, Need, Step, Task, Workload};
+pub use laws::{generated_is_said, the_first_fault};
+pub use sv_load::{Act, Action, Command, Need, Step, Task, Workload};
 pub use text::parse;
-
-#[cfg(test)]
-mod generator_tests;
-#[cfg(test)]
-mod tests;

@@ -5,10 +5,9 @@ ghost use Rattle.std.specs.List.{list_all};
 ghost use Rattle.sv_workload.specs.Numbers.{counts_as};
 ghost use Rattle.sv_workload.specs.Checks.{is_word, is_within, are_within};
 
-use crate::number::capped_number;
 use crate::range::{Range, is_in};
-use crate::words::Words;
 use arrayvec::ArrayVec;
+use sv_text::{Words, capped_number};
 
 /// The numbers of the words that were taken, in order.
 #[derive(Drop)]

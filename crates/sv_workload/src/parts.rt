@@ -2,18 +2,18 @@
 ghost use Rattle.std.specs.Prelude.{◌≡◌, ◌^◌, ◌<◌, ◌≤◌, Some, IfOk, slice_index};
 ghost use Rattle.sv_workload.specs.declared.keyword.SetupWord.TheVariants as setup;
 ghost use Rattle.sv_workload.specs.declared.keyword.Keyword.TheVariants.{Setup, Act, Turn};
-ghost use Rattle.sv_workload.specs.Fit.{IsFit};
-ghost use Rattle.sv_workload.specs.Meaning.{number, task_of, command_of, step_by, action_by};
+ghost use Rattle.sv_workload.specs.Fit.{FitsForm};
+ghost use Rattle.sv_workload.specs.Meaning.{number, task_in, command_of, step_by, action_by};
 ghost use Rattle.sv_workload.specs.Meaning.{action_of};
-ghost use Rattle.sv_workload.specs.Need.{IsStepAct, IsAsked};
-ghost use Rattle.sv_workload.specs.Limits.{most_ticks};
+ghost use Rattle.sv_load.specs.Need.{IsStepAct, IsAsked};
+ghost use Rattle.sv_load.specs.Limits.{most_ticks};
 
 use crate::acts::act;
 use crate::keyword::{ActWord, TurnWord};
-use crate::load::{Action, Command, Step, Task};
 use crate::numbers::number_or;
 use crate::read_line::ReadLine;
 use std::alloc::Global;
+use sv_load::{Action, Command, Step, Task};
 use sv_prim::{Bytes, NoMemory};
 
 /// The turn that these numbers after a word of the schedule give away.
@@ -34,7 +34,7 @@ fn turn(word: TurnWord, numbers: &[u32]) -> Action
 
 /// The turn that a line of the schedule gives away, by its word.
 pub fn action(line: &ReadLine<'_>, word: TurnWord) -> Action
-    ensures { line.now.keyword ≡ Turn word → IsFit line.now → number line.now 0 < 2 ^ 32
+    ensures { line.now.keyword ≡ Turn word → FitsForm line.now → number line.now 0 < 2 ^ 32
         → Some result ≡ action_of line.now }
 {
     turn(word, line.numbers())
@@ -64,8 +64,8 @@ fn named_task(alloc: Global, numbers: &[u32], name: &[u8]) -> Result<Task, NoMem
 
 /// The task of a line. Memory is taken for the name alone.
 pub fn task(alloc: Global, line: &ReadLine<'_>) -> Result<Task, NoMemory>
-    ensures { line.now.keyword ≡ Setup setup.Task → IsFit line.now
-        → IfOk result (λ t. t ≡ task_of line.now) }
+    ensures { line.now.keyword ≡ Setup setup.Task → FitsForm line.now
+        → IfOk result (λ t. t ≡ task_in line.now) }
 {
     named_task(alloc, line.numbers(), line.text())
 }
@@ -88,7 +88,7 @@ fn command_by(numbers: &[u32]) -> Command
 /// The command of a line.
 pub fn command(line: &ReadLine<'_>) -> Command
     requires keyword { line.now.keyword ≡ Setup setup.Command }
-    requires fit { IsFit line.now }
+    requires fit { FitsForm line.now }
     ensures told { result ≡ command_of line.now }
     ensures asked { IsAsked result }
 {
@@ -108,7 +108,7 @@ pub fn step(
     shift: u32,
 ) -> Result<Step, NoMemory>
     requires keyword { line.now.keyword ≡ Act word }
-    requires fit { IsFit line.now }
+    requires fit { FitsForm line.now }
     requires shift { shift ≤ 31 }
     ensures ok { IfOk result (λ s. Some s ≡ step_by line.now.keyword base shift line.now) }
     ensures advance { IfOk result (λ s. s.advance ≤ most_ticks) }

@@ -1,13 +1,13 @@
 //! A line that was read.
 ghost use Rattle.std.specs.Prelude.{◌≡◌, ◌-◌, ◌^◌, List, map, min, option_and_then, unwrap_or};
 ghost use Rattle.sv_workload.specs.Forms.{form_of};
-ghost use Rattle.sv_workload.specs.Line.{Line, line_of, numbers_of, text_of};
+ghost use Rattle.sv_workload.specs.Line.{Line, line_from, numbers_of, text_after};
 ghost use Rattle.sv_workload.specs.Meaning.{number};
 ghost use Rattle.sv_workload.specs.Numbers.{capped};
-ghost use Rattle.sv_workload.specs.Words.{number_of};
+ghost use Rattle.sv_text.specs.Words.{number_of};
 ghost use Rattle.sv_workload.specs.Checks.{is_misshapen, has_bad_number};
 
-use crate::command_words::{fits_command, is_command};
+use crate::command_words::{fits_command, is_command_word};
 use crate::cut_line::{CutLine, cut_into_words};
 use crate::fields::{Fields, fields_of};
 use crate::form::{Form, form_of};
@@ -40,7 +40,7 @@ impl<'a> ReadLine<'a> {
     /// Reads a line that is no remark.
     #[inline(always)]
     pub fn of(bytes: &'a [u8]) -> ReadLine<'a>
-        ensures { result ≡ line_of bytes.now }
+        ensures { result ≡ line_from bytes.now }
     {
         let cut = cut_into_words(bytes);
         let form = form_of(cut.keyword);
@@ -101,7 +101,7 @@ impl<'a> ReadLine<'a> {
     /// The text after the numbers, with all its spaces.
     #[inline(always)]
     pub fn text(&self) -> &'a [u8]
-        ensures { result.now ≡ text_of self.now }
+        ensures { result.now ≡ text_after self.now }
     {
         self.fields.text
     }
@@ -111,7 +111,7 @@ impl<'a> ReadLine<'a> {
     pub fn is_misshapen(&self) -> bool
         ensures { (before : List Line) → result ≡ is_misshapen before self.now }
     {
-        if is_command(self.cut.keyword) {
+        if is_command_word(self.cut.keyword) {
             !fits_command(&self.cut.words)
         } else {
             !self.fields.shaped

@@ -5,9 +5,9 @@ ghost use Rattle.sv_workload.specs.Grammar.{first_reason, IsWorkload};
 
 use crate::draft::Draft;
 use crate::fault::WorkFault;
-use crate::lines::first_line;
-use crate::load::Workload;
 use std::alloc::Global;
+use sv_load::Workload;
+use sv_text::first_line;
 
 /// Reads a text as a workload. `Line` names the first line with a fault, counted from 1, and the
 /// reason: the first check that it fails. `NoMemory` says only that there was too little of it.
@@ -35,5 +35,5 @@ pub fn parse(alloc: Global, text: &[u8]) -> Result<Workload, WorkFault>
         }
         rest = behind;
     }
-    Ok(Workload::of(draft))
+    Ok(draft.into_workload())
 }

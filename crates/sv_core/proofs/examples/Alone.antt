@@ -1,16 +1,15 @@
 -- A simulated journal worked out by hand, and its turns.
 use Rattle.std.proofs.Common.{◌≡◌, false, List, [], ◌∷◌, refl, rules}
-use Rattle.sv_workload.specs.Load.{Load}
+use Rattle.sv_load.specs.Load.{Load}
 use Rattle.sv_journal.specs.declared.journal.Kind.TheVariants as kinds
 use Rattle.sv_journal.specs.declared.journal.Origin.TheVariants.{Call, Sync, Reply}
 use Rattle.sv_journal.specs.declared.journal.Outcome.TheVariants.{Stored, Handled}
 use Rattle.sv_journal.specs.declared.journal.Item.{Item}
 use Rattle.sv_journal.specs.Legal.{IsWhole}
-use Rattle.sv_journal.proofs.Shared.{whole_of}
-use Rattle.sv_core.specs.Turns.{Turns}
-use Rattle.sv_core.specs.Turns.{turns_of}
+use Rattle.sv_journal.proofs.Shared.{whole_of, at, start}
+use Rattle.sv_core.specs.Turns.{Turns, turns_of}
 use Rattle.sv_core.specs.Simulated.{IsSimulated}
-use Rattle.sv_core.proofs.examples.Short.{at, start, turn}
+use Rattle.sv_core.proofs.examples.Short.{turn}
 
 abbrev pub load : Load
 load =

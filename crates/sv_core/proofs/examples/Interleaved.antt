@@ -2,18 +2,18 @@
 use Rattle.std.proofs.Common.{◌≡◌, ℕ, zero, suc, ◌<◌, true, false, List, [], ◌∷◌, length, refl}
 use Rattle.std.proofs.Common.{arith, rules}
 use Rattle.std.specs.Prelude.{count_by}
-use Rattle.sv_workload.specs.declared.load.Action.TheVariants.{Step, Read}
-use Rattle.sv_workload.specs.Load.{Load, script_of}
+use Rattle.sv_load.specs.declared.load.Action.TheVariants.{Step, Read}
+use Rattle.sv_load.specs.Load.{Load, script_of}
 use Rattle.sv_journal.specs.declared.journal.Kind.TheVariants as kinds
 use Rattle.sv_journal.specs.declared.journal.Origin.TheVariants.{Call, Sync, Reply}
 use Rattle.sv_journal.specs.declared.journal.Outcome.TheVariants.{Stored, Ignored, Handled}
 use Rattle.sv_journal.specs.declared.journal.Item.{Item}
 use Rattle.sv_journal.specs.Items.{is_call_of}
 use Rattle.sv_journal.specs.Legal.{IsLegal, IsWhole}
-use Rattle.sv_core.specs.Turns.{Turns}
-use Rattle.sv_core.specs.Turns.{turns_of}
+use Rattle.sv_journal.proofs.Shared.{at, start, mark, Same}
+use Rattle.sv_core.specs.Turns.{Turns, turns_of}
 use Rattle.sv_core.specs.Simulated.{IsSimulated}
-use Rattle.sv_core.proofs.examples.Short.{at, start, mark, turn, Same}
+use Rattle.sv_core.proofs.examples.Short.{turn}
 
 -- the first writer is through before its line of the schedule ends
 abbrev pub load : Load

@@ -1,16 +1,15 @@
 -- A run of one writer over a ring that is too short for a start's answers: an overflow within a
 -- section, and one before a call.
 use Rattle.std.proofs.Common.{false, List, [], ◌∷◌, refl, arith, rules}
-use Rattle.sv_workload.specs.declared.load.Step.{Step}
-use Rattle.sv_workload.specs.Load.{Load}
+use Rattle.sv_load.specs.declared.load.Step.{Step}
+use Rattle.sv_load.specs.Load.{Load}
 use Rattle.sv_journal.specs.declared.journal.Kind.TheVariants as kinds
 use Rattle.sv_journal.specs.declared.journal.Origin.TheVariants.{Call, Sync, Reply, Overflow}
 use Rattle.sv_journal.specs.declared.journal.Outcome.TheVariants.{Stored, Refused, Handled}
 use Rattle.sv_journal.specs.declared.journal.Item.{Item}
 use Rattle.sv_journal.specs.Legal.{IsLegal, IsWhole}
-use Rattle.sv_journal.proofs.Shared.{whole_of}
+use Rattle.sv_journal.proofs.Shared.{whole_of, at, start, mark, Same}
 use Rattle.sv_core.specs.Simulated.{IsSimulated}
-use Rattle.sv_core.proofs.examples.Short.{at, start, mark, Same}
 
 abbrev pub script : List Step
 script = start 0 ∷ mark 1 5 ∷ []

@@ -1,17 +1,16 @@
 -- A simulated journal worked out by hand, and its turns.
 use Rattle.std.proofs.Common.{◌≡◌, false, List, [], ◌∷◌, refl, rules}
-use Rattle.sv_workload.specs.declared.load.Step.{Step}
-use Rattle.sv_workload.specs.Load.{Load}
+use Rattle.sv_load.specs.declared.load.Step.{Step}
+use Rattle.sv_load.specs.Load.{Load}
 use Rattle.sv_journal.specs.declared.journal.Kind.TheVariants as kinds
 use Rattle.sv_journal.specs.declared.journal.Origin.TheVariants.{Call, Sync, Reply}
 use Rattle.sv_journal.specs.declared.journal.Outcome.TheVariants.{Stored, Ignored, Handled}
 use Rattle.sv_journal.specs.declared.journal.Item.{Item}
 use Rattle.sv_journal.specs.Legal.{IsWhole}
-use Rattle.sv_journal.proofs.Shared.{whole_of}
-use Rattle.sv_core.specs.Turns.{Turns}
-use Rattle.sv_core.specs.Turns.{turns_of}
+use Rattle.sv_journal.proofs.Shared.{whole_of, at, start, stop, mark}
+use Rattle.sv_core.specs.Turns.{Turns, turns_of}
 use Rattle.sv_core.specs.Simulated.{IsSimulated}
-use Rattle.sv_core.proofs.examples.Short.{at, start, stop, mark, turn}
+use Rattle.sv_core.proofs.examples.Short.{turn}
 
 abbrev pub script : List Step
 script = mark 5 9 ∷ start 0 ∷ mark 2 9 ∷ stop 3 ∷ mark 1 9 ∷ []

@@ -5,8 +5,8 @@ use Rattle.sv_journal.specs.declared.journal.Origin.TheVariants.{Call, Sync, Rep
 use Rattle.sv_journal.specs.declared.journal.Outcome.TheVariants.{Stored, Ignored, Handled}
 use Rattle.sv_journal.specs.declared.journal.Item.{Item}
 use Rattle.sv_journal.specs.Legal.{IsLegal}
+use Rattle.sv_journal.proofs.Shared.{at, Same}
 use Rattle.sv_core.specs.Simulated.{IsSimulated}
-use Rattle.sv_core.proofs.examples.Short.{at, Same}
 use Rattle.sv_core.proofs.examples.Stopped as stopped
 
 -- as if the host had not read the stop's packet to its end

@@ -1,6 +1,6 @@
 -- A start that tells the time in microseconds, its stream, and that it is legal and whole.
 use Rattle.std.proofs.Common.{◌≡◌, ℕ, true, List, [], ◌∷◌, length, refl, rules}
-use Rattle.sv_workload.specs.Load.{Load}
+use Rattle.sv_load.specs.Load.{Load}
 use Rattle.sv_journal.specs.declared.journal.Item.{Item}
 use Rattle.sv_journal.specs.Legal.{IsLegal, IsWhole}
 use Rattle.sv_journal.specs.Stream.{stream_of, IsCalm}

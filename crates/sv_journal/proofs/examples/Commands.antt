@@ -1,7 +1,7 @@
 -- Two commands, one of which answers nothing, the stream, and that the journal is legal and whole.
 use Rattle.std.proofs.Common.{◌≡◌, ℕ, List, [], ◌∷◌, ◌++◌, length, refl, rules}
 use Rattle.std.specs.Prelude.{codes}
-use Rattle.sv_workload.specs.Load.{Load}
+use Rattle.sv_load.specs.Load.{Load}
 use Rattle.sv_journal.specs.declared.journal.Kind.TheVariants as kinds
 use Rattle.sv_journal.specs.declared.journal.Origin.TheVariants.{Call, Reply, Command}
 use Rattle.sv_journal.specs.declared.journal.Outcome.TheVariants.{Stored, Handled}

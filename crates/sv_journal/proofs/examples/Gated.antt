@@ -1,6 +1,6 @@
 -- A full ring that nobody reads for thirty calls.
 use Rattle.std.proofs.Common.{◌≡◌, List, [], ◌∷◌, ◌++◌, refl, rules}
-use Rattle.sv_workload.specs.Load.{Load}
+use Rattle.sv_load.specs.Load.{Load}
 use Rattle.sv_journal.specs.declared.journal.Origin.TheVariants.{Call, Overflow}
 use Rattle.sv_journal.specs.declared.journal.Outcome.TheVariants.{Stored, Refused}
 use Rattle.sv_journal.specs.declared.journal.Item.{Item}

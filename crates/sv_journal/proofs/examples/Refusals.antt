@@ -1,6 +1,6 @@
 -- A ring that is full until it is read once, its stream, and that its journal is legal and whole.
 use Rattle.std.proofs.Common.{◌≡◌, ℕ, List, [], ◌∷◌, ◌++◌, length, refl, rules}
-use Rattle.sv_workload.specs.Load.{Load}
+use Rattle.sv_load.specs.Load.{Load}
 use Rattle.sv_journal.specs.declared.journal.Origin.TheVariants.{Call, Overflow}
 use Rattle.sv_journal.specs.declared.journal.Outcome.TheVariants.{Stored, Refused}
 use Rattle.sv_journal.specs.declared.journal.Item.{Item}

@@ -4,9 +4,9 @@ use Rattle.std.specs.Prelude.{slice_index, slice_set}
 use Rattle.sv_packet.specs.declared.event.Event.{Event}
 use Rattle.sv_packet.specs.declared.event.Event.TheVariants as events
 use Rattle.sv_packet.specs.declared.event.TimedEvent.{TimedEvent}
-use Rattle.sv_workload.specs.declared.load.Command.{Command as Asked}
-use Rattle.sv_workload.specs.Load.{Load}
-use Rattle.sv_workload.specs.Need.{need_items, need_bytes}
+use Rattle.sv_load.specs.declared.load.Command.{Command as Asked}
+use Rattle.sv_load.specs.Load.{Load}
+use Rattle.sv_load.specs.Need.{need_items, need_bytes}
 use Rattle.sv_journal.specs.declared.journal.Origin.TheVariants.{Call}
 use Rattle.sv_journal.specs.declared.journal.Outcome.TheVariants.{Stored}
 use Rattle.sv_journal.specs.declared.journal.Item.{Item}

@@ -3,9 +3,9 @@
 use Rattle.std.proofs.Common.{◌≡◌, List, [], ◌∷◌, ◌++◌, Some, refl, rules}
 use Rattle.std.specs.Prelude.{codes}
 use Rattle.sv_packet.specs.declared.event.Event.TheVariants.{NameResource, Print, Opaque, EndCall}
-use Rattle.sv_workload.specs.declared.load.Act.TheVariants.{Event}
-use Rattle.sv_workload.specs.Load.{Load}
-use Rattle.sv_workload.specs.Need.{need_bytes}
+use Rattle.sv_load.specs.declared.load.Act.TheVariants.{Event}
+use Rattle.sv_load.specs.Load.{Load}
+use Rattle.sv_load.specs.Need.{need_bytes}
 use Rattle.sv_journal.specs.declared.journal.Origin.TheVariants.{Call}
 use Rattle.sv_journal.specs.declared.journal.Outcome.TheVariants.{Stored}
 use Rattle.sv_journal.specs.declared.journal.Item.{Item}

@@ -1,7 +1,7 @@
 -- Needs worked out, and a workload whose texts are too long for its need.
 use Rattle.std.proofs.Common.{◌≡◌, ◌<◌, ◌≤◌, List, [], ◌∷◌, length, replicate, refl, arith, rules}
-use Rattle.sv_workload.specs.Load.{Load}
-use Rattle.sv_workload.specs.Need.{need_items, need_bytes}
+use Rattle.sv_load.specs.Load.{Load}
+use Rattle.sv_load.specs.Need.{need_items, need_bytes}
 use Rattle.sv_journal.specs.declared.journal.Kind.TheVariants.{TraceStart, Init, Line, Systime}
 use Rattle.sv_journal.specs.declared.journal.Kind.TheVariants.{ModuleCount}
 use Rattle.sv_journal.specs.declared.journal.Origin.TheVariants.{Call, Sync, Reply}

@@ -8,9 +8,9 @@ use Rattle.sv_packet.specs.declared.event.TimedEvent.{TimedEvent}
 use Rattle.sv_packet.specs.Events.{last_time}
 use Rattle.sv_packet.specs.Lists.{last_of}
 use Rattle.sv_packet.specs.Time.{timed}
-use Rattle.sv_workload.specs.declared.load.Step.{Step}
-use Rattle.sv_workload.specs.Load.{Load}
-use Rattle.sv_workload.specs.Need.{IsWithinLimits}
+use Rattle.sv_load.specs.declared.load.Step.{Step}
+use Rattle.sv_load.specs.Load.{Load}
+use Rattle.sv_load.specs.Need.{IsWithinLimits}
 use Rattle.sv_journal.specs.declared.journal.Kind.TheVariants as kinds
 use Rattle.sv_journal.specs.declared.journal.Origin.TheVariants.{Call, Sync, Reply, Overflow}
 use Rattle.sv_journal.specs.declared.journal.Outcome.TheVariants.{Stored, Refused, Handled}
@@ -26,7 +26,7 @@ use Rattle.sv_latency.specs.declared.class.Class.{Class}
 use Rattle.sv_latency.specs.declared.class.Class.TheVariants.{Measured, Resumed}
 use Rattle.sv_latency.specs.declared.class.Class.TheVariants.{Unknown as UnknownClass}
 use Rattle.sv_latency.specs.Class.{class_from, class_of, is_about}
-use Rattle.sv_core.specs.Sent.{sent_packets}
+use Rattle.sv_sent.specs.Sent.{sent_packets}
 use Rattle.sv_truth.specs.Truth.{all_calls, truth_at, IsNamed, AreContextsTrue, TellsClasses}
 use Rattle.sv_truth.specs.Truth.{TellsContexts}
 use Rattle.sv_truth.proofs.Naming.{truly}

@@ -4,9 +4,9 @@ use Rattle.std.proofs.Common.{◌≡◌, [], ◌∷◌, List, refl, arith, rules
 use Rattle.sv_packet.specs.declared.event.Event.TheVariants as events
 use Rattle.sv_packet.specs.declared.event.TimedEvent.{TimedEvent}
 use Rattle.sv_packet.specs.Time.{timed}
-use Rattle.sv_workload.specs.declared.load.Step.{Step}
-use Rattle.sv_workload.specs.Load.{Load}
-use Rattle.sv_workload.specs.Need.{IsWithinLimits}
+use Rattle.sv_load.specs.declared.load.Step.{Step}
+use Rattle.sv_load.specs.Load.{Load}
+use Rattle.sv_load.specs.Need.{IsWithinLimits}
 use Rattle.sv_journal.specs.declared.journal.Kind.TheVariants as kinds
 use Rattle.sv_journal.specs.declared.journal.Origin.TheVariants.{Call, Sync, Reply}
 use Rattle.sv_journal.specs.declared.journal.Outcome.TheVariants.{Stored, Ignored, Handled}
@@ -16,7 +16,7 @@ use Rattle.sv_journal.specs.Stream.{IsCalm}
 use Rattle.sv_journal.proofs.Shared.{at, load_of, start}
 use Rattle.sv_context.specs.declared.context.Context.TheVariants.{Gap, Unknown, Task, Isr}
 use Rattle.sv_timeline.specs.Ticks.{context_at}
-use Rattle.sv_core.specs.Sent.{sent_packets}
+use Rattle.sv_sent.specs.Sent.{sent_packets}
 use Rattle.sv_truth.specs.Truth.{truth_at, TellsContexts}
 use Rattle.sv_truth.proofs.Naming.{truly}
 use Rattle.sv_truth.proofs.examples.Words.{AreSteps, limits, step, stop, told}

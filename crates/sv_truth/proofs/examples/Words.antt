@@ -5,13 +5,13 @@ use Rattle.std.proofs.lemmas.List.Elements.{All-cons, All-nil}
 use Rattle.sv_prim.specs.Text.{AreBytes}
 use Rattle.sv_packet.specs.declared.event.Event.{Event}
 use Rattle.sv_packet.specs.declared.event.TimedEvent.{TimedEvent}
-use Rattle.sv_workload.specs.declared.load.Act.TheVariants as acts
-use Rattle.sv_workload.specs.declared.load.Step.{Step}
-use Rattle.sv_workload.specs.declared.load.Task.{Task}
+use Rattle.sv_load.specs.declared.load.Act.TheVariants as acts
+use Rattle.sv_load.specs.declared.load.Step.{Step}
+use Rattle.sv_load.specs.declared.load.Task.{Task}
 use Rattle.sv_desc.specs.Modules.{ModuleRow}
-use Rattle.sv_workload.specs.Limits.{most_starts, most_steps, most_ticks}
-use Rattle.sv_workload.specs.Need.{HasWords, IsAsked, IsStepAct, IsTask, IsTurn, IsWithinLimits}
-use Rattle.sv_workload.specs.Need.{starts_in, steps_in}
+use Rattle.sv_load.specs.Limits.{most_starts, most_steps, most_ticks}
+use Rattle.sv_load.specs.Need.{HasWords, IsAsked, IsStepAct, IsTask, IsTurn, IsWithinLimits}
+use Rattle.sv_load.specs.Need.{starts_in, steps_in}
 use Rattle.sv_journal.proofs.Shared.{load_of}
 
 abbrev pub step : ℕ → Event → Step

@@ -3,12 +3,12 @@ use Rattle.std.specs.Prelude.{codes}
 use Rattle.std.proofs.Common.{◌≡◌, ℕ, List, [], ◌∷◌, ◌++◌, refl}
 use Rattle.sv_prim.specs.Shrink.{shrunk}
 use Rattle.sv_packet.specs.declared.event.Event.TheVariants.{TaskStart}
-use Rattle.sv_workload.specs.declared.load.Act.TheVariants.{Event}
-use Rattle.sv_workload.specs.declared.load.Action.TheVariants.{Step, Read}
+use Rattle.sv_load.specs.declared.load.Act.TheVariants.{Event}
+use Rattle.sv_load.specs.declared.load.Action.TheVariants.{Step, Read}
 use Rattle.sv_workload.specs.Grammar.{IsWorkload}
-use Rattle.sv_workload.specs.Generated.{generated_load, number_of, rounds, step_from}
+use Rattle.sv_workload.specs.Generated.{generated_load, drawn_number, rounds, step_from}
 
-first_number : number_of 1 1 ≡ 1015568748
+first_number : drawn_number 1 1 ≡ 1015568748
 first_number = refl
 
 first_step : step_from 1015568748 ≡ record { advance = 60; act = Event (TaskStart 1) }

@@ -9,7 +9,7 @@ use Rattle.sv_workload.specs.declared.keyword.TurnWord.TheVariants.{Send}
 use Rattle.sv_workload.specs.declared.keyword.Keyword.{Keyword}
 use Rattle.sv_workload.specs.declared.keyword.Keyword.TheVariants.{Setup, Writer, Schedule, Turn}
 use Rattle.sv_workload.specs.Line.{Line}
-use Rattle.sv_workload.specs.Words.{words_of}
+use Rattle.sv_text.specs.Words.{words_of}
 use Rattle.sv_workload.specs.Meaning.{modules_of, commands_of}
 use Rattle.sv_workload.specs.Checks.{fault_of}
 

@@ -4,10 +4,10 @@ use Rattle.std.proofs.Common.{◌≡◌, ℕ, zero, suc, ◌<◌, true, false, [
 use Rattle.std.proofs.Common.{ap, arith}
 use Rattle.sv_packet.specs.declared.event.Event.TheVariants as event
 use Rattle.sv_workload.specs.declared.fault.LineFault.TheVariants.{Number, UnknownWord}
-use Rattle.sv_workload.specs.declared.load.Act.TheVariants as act
-use Rattle.sv_workload.specs.declared.load.Action.TheVariants as action
-use Rattle.sv_workload.specs.Load.{Load}
-use Rattle.sv_workload.specs.Lines.{lines_of}
+use Rattle.sv_load.specs.declared.load.Act.TheVariants as act
+use Rattle.sv_load.specs.declared.load.Action.TheVariants as action
+use Rattle.sv_load.specs.Load.{Load}
+use Rattle.sv_text.specs.Lines.{lines_of}
 use Rattle.sv_workload.specs.Grammar.{fault_at, IsWorkload, IsFirstFault}
 
 -- what holds where nothing is said

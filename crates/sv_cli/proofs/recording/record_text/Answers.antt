@@ -1,5 +1,5 @@
 use Rattle.std.proofs.Common.{◌∙◌, ◌++◌, ℕ, List, sym, ap}
-use Rattle.sv_core.specs.Start.{has_start as holds_start}
+use Rattle.sv_sent.specs.Start.{has_start as holds_start}
 use Rattle.sv_cli.specs.Recorded.{header}
 use Rattle.sv_cli.proofs.recording.record_text.Goals as goal
 

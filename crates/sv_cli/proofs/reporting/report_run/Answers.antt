@@ -1,6 +1,6 @@
 use Rattle.std.proofs.Common.{◌∙◌, sym, ap}
 use Rattle.sv_report.specs.ReportText.{text_of}
-use Rattle.sv_core.specs.Start.{has_start as holds_start}
+use Rattle.sv_sent.specs.Start.{has_start as holds_start}
 use Rattle.sv_cli.proofs.Reported.{report_of_run}
 use Rattle.sv_cli.proofs.reporting.report_run.Goals as goal
 

@@ -1,15 +1,13 @@
 use Rattle.sv_report.specs.ReportText.{text_of}
 use Rattle.sv_journal.specs.Stream.{stream_of}
-use Rattle.sv_core.specs.Sent.{sent_packets}
+use Rattle.sv_sent.specs.Sent.{sent_packets}
 use Rattle.sv_cli.proofs.Parts.{on_ok}
 use Rattle.sv_cli.proofs.Reported.{report_of_stream, then_if}
 use Rattle.sv_cli.proofs.running.run_report.Goals as goal
 
 pub returns-clause-names : goal.returns-clause-names
 returns-clause-names g c =
-    on_ok c.text.result
-    (c.named_truly.ensures c.args.load.now c.run.new.journal.items c.in_ok-analyser.ensures.legal
-    c.writers.ensures.limits)
+    on_ok c.text.result c.in_ok-analyser.ensures.names
 
 pub returns-clause-report : goal.returns-clause-report
 returns-clause-report g c =

@@ -1,6 +1,6 @@
 use Rattle.std.proofs.Common.{ℕ, List, subst}
 use Rattle.sv_stream.specs.Reads.{Reads}
-use Rattle.sv_core.specs.Start.{has_start}
+use Rattle.sv_sent.specs.Start.{has_start}
 use Rattle.sv_cli.proofs.Reported.{ends_so}
 use Rattle.sv_cli.proofs.simulated.run_of.Goals as goal
 

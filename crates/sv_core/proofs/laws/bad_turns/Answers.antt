@@ -1,5 +1,5 @@
-use Rattle.sv_core.proofs.BadTurns.{not_both, one_place}
-use Rattle.sv_core.proofs.EitherWay.{either}
+use Rattle.sv_core.proofs.failing.BadTurns.{not_both, one_place}
+use Rattle.sv_core.proofs.failing.EitherWay.{either}
 use Rattle.sv_core.proofs.laws.bad_turns.Goals as goal
 
 pub returns-clause-apart : goal.returns-clause-apart

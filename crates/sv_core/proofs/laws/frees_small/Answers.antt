@@ -1,4 +1,4 @@
-use Rattle.sv_core.proofs.Rising.{rising, frees_small, little}
+use Rattle.sv_core.proofs.own_turns.Rising.{rising, frees_small, little}
 use Rattle.sv_core.proofs.laws.frees_small.Goals as goal
 
 pub returns-clause-rises : goal.returns-clause-rises

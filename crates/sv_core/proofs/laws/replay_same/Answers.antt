@@ -1,7 +1,7 @@
-use Rattle.sv_core.proofs.Settling.{replayed, replay_same}
-use Rattle.sv_core.proofs.BadTurns.{not_both}
-use Rattle.sv_core.specs.Settled.{settled}
+use Rattle.sv_core.specs.Replayed.{replay_of}
 use Rattle.sv_core.specs.Turns.{turns_of}
+use Rattle.sv_core.proofs.own_turns.Settling.{replayed, replay_same}
+use Rattle.sv_core.proofs.failing.BadTurns.{not_both}
 use Rattle.sv_core.proofs.laws.replay_same.Goals as goal
 
 pub returns-clause-given : goal.returns-clause-given
@@ -18,4 +18,4 @@ returns-clause-stream c = λ load items others legal commands of. let both =
 pub returns-clause-sound : goal.returns-clause-sound
 returns-clause-sound c =
     λ load items at legal commands bad.
-    not_both load (turns_of items) at (settled items) bad (replayed load items legal commands)
+    not_both load (turns_of items) at (replay_of items) bad (replayed load items legal commands)

@@ -1,4 +1,4 @@
-use Rattle.sv_core.proofs.OneReplay.{replayed_once}
+use Rattle.sv_core.proofs.once.OneReplay.{replayed_once}
 use Rattle.sv_core.proofs.laws.replayed_once.Goals as goal
 
 pub returns : goal.returns

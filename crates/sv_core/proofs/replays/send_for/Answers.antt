@@ -1,6 +1,6 @@
 use Rattle.std.proofs.Common.{◌<◌, ◌+◌, length, cond, sym, ap, ◌∙◌, subst, arith}
 use Rattle.sv_core.specs.Played.{HasSent}
-use Rattle.sv_core.proofs.Commands.{sent-send}
+use Rattle.sv_core.proofs.taking.Commands.{sent-send}
 use Rattle.sv_core.proofs.replays.send_for.Goals as goal
 
 pub returns-clause-sent : goal.returns-clause-sent

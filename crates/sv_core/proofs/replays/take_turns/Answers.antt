@@ -3,11 +3,11 @@ use Rattle.std.specs.Prelude.{slice_index_or}
 use Rattle.sv_journal.specs.Legal.{IsLegal}
 use Rattle.sv_core.specs.declared.turns.StepTurn.{StepTurn}
 use Rattle.sv_core.specs.BadTurns.{IsBadTurns}
-use Rattle.sv_core.specs.Used.{IsCounted, IsUsingOthers, turns_by}
-use Rattle.sv_core.proofs.TurnsTaken.{fails-writer, fails-command, fails-through, taken}
-use Rattle.sv_core.proofs.TurnsTaken.{fails-frees, fails-left, to-turn, found-for}
-use Rattle.sv_core.proofs.TurnsTaken.{taking-more, seen_as}
-use Rattle.sv_core.proofs.FreesCounted.{counted-use}
+use Rattle.sv_core.specs.Used.{HasUsed, IsUsingOthers, turns_by}
+use Rattle.sv_core.proofs.taking.TurnsTaken.{fails-writer, fails-command, fails-through, taken}
+use Rattle.sv_core.proofs.taking.TurnsTaken.{fails-frees, fails-left, to-turn, found-for}
+use Rattle.sv_core.proofs.taking.TurnsTaken.{taking-more, seen_as}
+use Rattle.sv_core.proofs.taking.FreesCounted.{counted-use}
 use Rattle.sv_core.proofs.replays.take_turns.Goals as goal
 
 -- what stands where there is no turn
@@ -117,8 +117,8 @@ loop-at-preserved g c =
     now.freed section.0 i.taking below (record { none = f.none; some = f.some }) legal section.1
     section.2 in
     let used = c.in-Some-used_from.more in
-    let counted : IsCounted now.items frees used.count used.freed used.after_lost =
-    subst (λ is. IsCounted is frees used.count used.freed used.after_lost)
+    let counted : HasUsed now.items frees used.count used.freed used.after_lost =
+    subst (λ is. HasUsed is frees used.count used.freed used.after_lost)
     (c.items.ensures ∙ c.journal-in-loop-at.ensures) c.in-Some-used_from.ensures in (
       record {
         taking = taking-more load steps frees at r.load now.load r.items now.items r.sent now.sent

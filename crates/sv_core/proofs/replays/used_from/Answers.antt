@@ -1,5 +1,5 @@
 use Rattle.std.proofs.Common.{◌≡◌, length, sym, ◌∙◌, arith, rules}
-use Rattle.sv_core.proofs.FreesCounted.{counted-other}
+use Rattle.sv_core.proofs.taking.FreesCounted.{counted-other}
 use Rattle.sv_core.proofs.replays.used_from.Goals.{then-used-frees-via-then-used-frees}
 use Rattle.sv_core.proofs.replays.used_from.Goals.{
   then-used-frees-via-else-used-frees+then-saturating_sub-from,

@@ -1,7 +1,7 @@
 use Rattle.std.proofs.Common.{◌≡◌, subst, sym, arith}
 use Rattle.sv_core.specs.Played.{played_rounds}
-use Rattle.sv_core.proofs.Rounds.{AreEnough}
-use Rattle.sv_core.proofs.Playing.{are-enough, played-read_all, played-all}
+use Rattle.sv_core.proofs.in_order.Rounds.{AreEnough}
+use Rattle.sv_core.proofs.in_order.Playing.{are-enough, played-read_all, played-all}
 use Rattle.sv_core.proofs.simulation.play.Goals as goal
 
 pub returns-clause-simulated : goal.returns-clause-simulated

@@ -1,8 +1,8 @@
 use Rattle.std.proofs.Common.{◌<◌, ◌++◌, length, sym, ap, ◌∙◌, subst, arith}
 use Rattle.sv_recorder.specs.Recording.{Recording}
 use Rattle.sv_core.specs.Played.{IsPlayed, played_rounds}
-use Rattle.sv_core.proofs.RoundParts.{round_part}
-use Rattle.sv_core.proofs.PlayingLines.{played-writer, played-idle_writer, played-round}
+use Rattle.sv_core.proofs.in_order.RoundParts.{round_part}
+use Rattle.sv_core.proofs.in_order.PlayingLines.{played-writer, played-idle_writer, played-round}
 use Rattle.sv_core.proofs.simulation.play_round.Goals.{then-step, else-step}
 use Rattle.sv_core.proofs.simulation.play_round.Goals as goal
 

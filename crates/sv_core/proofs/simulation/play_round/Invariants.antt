@@ -1,6 +1,6 @@
 use Rattle.std.proofs.Common.{◌≡◌, ℕ, ◌++◌}
 use Rattle.sv_core.specs.Played.{IsPlayed, played_rounds}
-use Rattle.sv_core.proofs.RoundParts.{round_part}
+use Rattle.sv_core.proofs.in_order.RoundParts.{round_part}
 use Rattle.sv_core.proofs.simulation.play_round.Given as goal
 
 abbrev pub invariant-loop-writer : goal.invariant-loop-writer

@@ -1,14 +1,14 @@
 use Rattle.std.proofs.Common.{◌≡◌, ◌+◌, ◌<◌, ◌≤◌, sym, ap, ◌∙◌, subst, arith, length}
 use Rattle.std.specs.Prelude.{slice_index_or}
-use Rattle.sv_workload.specs.declared.load.Action.{Action}
-use Rattle.sv_workload.specs.declared.load.Action.TheVariants as actions
+use Rattle.sv_load.specs.declared.load.Action.{Action}
+use Rattle.sv_load.specs.declared.load.Action.TheVariants as actions
 use Rattle.sv_recorder.specs.Recording.{Recording}
 use Rattle.sv_core.specs.Order.{possible}
 use Rattle.sv_core.specs.Played.{HasSent, IsPlayed, IsSending}
-use Rattle.sv_core.proofs.OrderParts.{asked_by}
-use Rattle.sv_core.proofs.Playing.{played-read}
-use Rattle.sv_core.proofs.PlayingLines.{played-steps, played-line, played-line_send, sends-steps}
-use Rattle.sv_core.proofs.PlayingLines.{sends-read}
+use Rattle.sv_core.proofs.in_order.OrderParts.{asked_by}
+use Rattle.sv_core.proofs.in_order.Playing.{played-read}
+use Rattle.sv_core.proofs.in_order.PlayingLines.{played-steps, played-line, played-line_send}
+use Rattle.sv_core.proofs.in_order.PlayingLines.{sends-steps, sends-read}
 use Rattle.sv_core.proofs.simulation.play_schedule.Goals.{in-Step, in-Read, in-Send}
 use Rattle.sv_core.proofs.simulation.play_schedule.Goals as goal
 

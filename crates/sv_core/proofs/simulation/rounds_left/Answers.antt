@@ -1,9 +1,9 @@
 use Rattle.std.proofs.Common.{◌+◌, ◌<◌, ◌≡◌, ◌≤◌, ap, sym, ◌∙◌, subst, arith, rules, length}
 use Rattle.std.specs.Prelude.{max, count_by}
 use Rattle.sv_journal.specs.Items.{is_call_of}
-use Rattle.sv_workload.specs.Load.{Load, script_of}
-use Rattle.sv_workload.specs.Need.{steps_in}
-use Rattle.sv_core.proofs.PlayingLines.{most-more, most-within}
+use Rattle.sv_load.specs.Load.{Load, script_of}
+use Rattle.sv_load.specs.Need.{steps_in}
+use Rattle.sv_core.proofs.in_order.PlayingLines.{most-more, most-within}
 use Rattle.sv_core.proofs.simulation.rounds_left.Goals as goal
 
 pub loop-writer-preserved : goal.loop-writer-preserved

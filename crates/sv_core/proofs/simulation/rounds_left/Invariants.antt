@@ -1,7 +1,7 @@
 use Rattle.std.proofs.Common.{ℕ, ◌+◌, ◌<◌, ◌≤◌, length}
 use Rattle.std.specs.Prelude.{count_by}
-use Rattle.sv_workload.specs.Load.{script_of}
-use Rattle.sv_workload.specs.Need.{steps_in}
+use Rattle.sv_load.specs.Load.{script_of}
+use Rattle.sv_load.specs.Need.{steps_in}
 use Rattle.sv_journal.specs.Items.{is_call_of}
 use Rattle.sv_core.proofs.simulation.rounds_left.Given as goal
 

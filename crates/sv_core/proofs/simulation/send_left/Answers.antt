@@ -1,8 +1,8 @@
-use Rattle.std.proofs.Common.{◌≡◌, ◌+◌, ◌-◌, ◌<◌, ◌++◌, length, replicate, sym, ap, ◌∙◌}
-use Rattle.std.proofs.Common.{subst, arith}
+use Rattle.std.proofs.Common.{◌≡◌, ◌+◌, ◌-◌, ◌<◌, ◌++◌, length, replicate, sym, ap, ◌∙◌, subst}
+use Rattle.std.proofs.Common.{arith}
 use Rattle.sv_core.specs.Order.{Sends, scheduled}
 use Rattle.sv_core.specs.Played.{HasSent, IsPlayed}
-use Rattle.sv_core.proofs.PlayingLines.{played-left, sends-left}
+use Rattle.sv_core.proofs.in_order.PlayingLines.{played-left, sends-left}
 use Rattle.sv_core.proofs.simulation.send_left.Goals as goal
 
 pub send_next-requires : goal.send_next-requires

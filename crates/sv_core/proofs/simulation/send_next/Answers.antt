@@ -1,8 +1,8 @@
 use Rattle.std.proofs.Common.{◌≡◌, length, refl, ap, subst, arith}
 use Rattle.std.specs.Prelude.{slice_get, slice_index_or, Some}
 use Rattle.std.proofs.lemmas.Option.{slice_get-get_or}
-use Rattle.sv_workload.specs.declared.load.Command.{Command}
-use Rattle.sv_core.proofs.Commands.{sent-room}
+use Rattle.sv_load.specs.declared.load.Command.{Command}
+use Rattle.sv_core.proofs.taking.Commands.{sent-room}
 use Rattle.sv_core.proofs.simulation.send_next.Goals as goal
 
 -- what stands where there is no command

@@ -1,7 +1,7 @@
 use Rattle.std.proofs.Common.{refl, sym}
 use Rattle.std.proofs.lemmas.Bool.{true≢false}
-use Rattle.sv_core.proofs.Playing.{possible-left, possible-through, played-section}
-use Rattle.sv_core.proofs.Playing.{played-through}
+use Rattle.sv_core.proofs.in_order.Playing.{possible-left, possible-through, played-section}
+use Rattle.sv_core.proofs.in_order.Playing.{played-through}
 use Rattle.sv_core.proofs.simulation.step.Goals as goal
 
 pub returns-in-Some-clause-possible : goal.returns-in-Some-clause-possible

@@ -1,7 +1,7 @@
 use Rattle.std.proofs.Common.{false, suc, ◌≡◌, ◌++◌, replicate, sym, ◌∙◌, subst, arith, add-one}
 use Rattle.sv_core.specs.Order.{Takes_step, is_possible, possible}
 use Rattle.sv_core.specs.Played.{IsPlayed}
-use Rattle.sv_core.proofs.OrderParts.{possible-same, step_asked, steps_through}
+use Rattle.sv_core.proofs.in_order.OrderParts.{possible-same, step_asked, steps_through}
 use Rattle.sv_core.proofs.simulation.steps.Goals as goal
 
 pub returns-then-not-step-clause-played : goal.returns-then-not-step-clause-played

@@ -1,5 +1,5 @@
 use Rattle.std.proofs.Common.{◌≡◌, List, ◌++◌, replicate}
-use Rattle.sv_workload.specs.Load.{Load}
+use Rattle.sv_load.specs.Load.{Load}
 use Rattle.sv_core.specs.Order.{Turn, Takes_step, possible}
 use Rattle.sv_core.specs.Played.{IsPlayed}
 use Rattle.sv_core.proofs.simulation.steps.Given as goal

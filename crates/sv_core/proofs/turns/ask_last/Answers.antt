@@ -1,7 +1,7 @@
 use Rattle.std.proofs.Common.{◌++◌, sym, ap, ◌∙◌}
 use Rattle.std.specs.Option.{option_to_list}
 use Rattle.sv_core.specs.Turned.{asked_last}
-use Rattle.sv_core.proofs.Gathered.{asked-last}
+use Rattle.sv_core.proofs.own_turns.Gathered.{asked-last}
 use Rattle.sv_core.proofs.turns.ask_last.Goals as goal
 
 pub returns-in-Some : goal.returns-in-Some

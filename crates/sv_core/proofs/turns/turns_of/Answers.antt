@@ -2,7 +2,7 @@ use Rattle.std.proofs.Common.{true, false, sym, ap, ◌∙◌, subst, arith, app
 use Rattle.sv_journal.specs.Items.{latest_first}
 use Rattle.sv_journal.specs.Legal.{EachItem}
 use Rattle.sv_core.specs.Turned.{RisesLittle}
-use Rattle.sv_core.proofs.Gathered.{turned-at, rises-at}
+use Rattle.sv_core.proofs.own_turns.Gathered.{turned-at, rises-at}
 use Rattle.sv_core.proofs.turns.turns_of.Goals.{then-is_written+in-Ok, else-is_written}
 use Rattle.sv_core.proofs.turns.turns_of.Goals as goal
 

@@ -1,5 +1,5 @@
 use Rattle.std.proofs.Common.{take}
-use Rattle.sv_core.proofs.Gathered.{IsTurned}
+use Rattle.sv_core.proofs.own_turns.Gathered.{IsTurned}
 use Rattle.sv_core.proofs.turns.turns_of.Given as goal
 
 abbrev pub invariant-loop-item : goal.invariant-loop-item

@@ -1,6 +1,6 @@
 use Rattle.std.proofs.Common.{◌++◌, ◌∷◌, [], refl, arith}
-use Rattle.sv_packet.proofs.Shorts.{is_not}
-use Rattle.sv_packet.proofs.Counts.{takes_more, not_numbers, numbers_whole, is_same, same_is}
+use Rattle.sv_packet.proofs.one_spelling.Shorts.{is_not}
+use Rattle.sv_packet.proofs.how_long.Counts.{takes_more, not_numbers, numbers_whole, is_same, same_is}
 use Rattle.sv_packet.proofs.counted.are_numbers.Goals as goal
 
 pub returns-in_default : goal.returns-in_default

@@ -1,7 +1,7 @@
 use Rattle.std.proofs.Common.{subst}
 use Rattle.sv_packet.specs.Forms.{IsFormOf}
 use Rattle.sv_prim.proofs.Shared.{are_bytes}
-use Rattle.sv_packet.proofs.Known.{opaque_event, print_event}
+use Rattle.sv_packet.proofs.told_of_parts.Known.{opaque_event, print_event}
 use Rattle.sv_packet.proofs.counted.counted_event.Goals as goal
 
 pub returns-in-Some-Print : goal.returns-in-Some-Print

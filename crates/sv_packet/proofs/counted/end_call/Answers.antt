@@ -1,5 +1,5 @@
 use Rattle.std.proofs.Common.{refl, arith}
-use Rattle.sv_packet.proofs.Formed.{end_stop, end_value_stop, end_less, end_all}
+use Rattle.sv_packet.proofs.told_of_parts.Formed.{end_stop, end_value_stop, end_less, end_all}
 use Rattle.sv_packet.proofs.counted.end_call.Goals as goal
 
 pub returns-in_default : goal.returns-in_default

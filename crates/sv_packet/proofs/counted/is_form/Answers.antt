@@ -1,4 +1,4 @@
-use Rattle.sv_packet.proofs.Known.{form_found}
+use Rattle.sv_packet.proofs.told_of_parts.Known.{form_found}
 use Rattle.sv_packet.proofs.counted.is_form.Goals as goal
 
 pub returns : goal.returns

@@ -1,9 +1,9 @@
 use Rattle.std.proofs.Common.{refl, sym, subst, arith}
 use Rattle.sv_packet.specs.Parts.{AreNumbers}
-use Rattle.sv_packet.proofs.Shorts.{is_not}
-use Rattle.sv_packet.proofs.Known.{behind_three}
-use Rattle.sv_packet.proofs.Formed.{print_text_stop, print_options_stop, print_count_stop}
-use Rattle.sv_packet.proofs.Formed.{print_args, print_all}
+use Rattle.sv_packet.proofs.one_spelling.Shorts.{is_not}
+use Rattle.sv_packet.proofs.told_of_parts.Known.{behind_three}
+use Rattle.sv_packet.proofs.told_of_parts.Formed.{print_text_stop, print_options_stop, print_count_stop}
+use Rattle.sv_packet.proofs.told_of_parts.Formed.{print_args, print_all}
 use Rattle.sv_packet.proofs.counted.print.Goals as goal
 
 pub returns-in_default : goal.returns-in_default

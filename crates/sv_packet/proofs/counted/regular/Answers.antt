@@ -2,8 +2,8 @@ use Rattle.sv_packet.specs.Reader.{numbers_in}
 use Rattle.std.proofs.Common.{refl, subst, ℕ, arith}
 use Rattle.sv_packet.specs.Packet.{AreFields}
 use Rattle.sv_packet.specs.Shape.{ends_in_text, fields_by}
-use Rattle.sv_packet.proofs.Formed.{regular_numbers_stop, regular_text_stop, regular_less}
-use Rattle.sv_packet.proofs.Formed.{regular_all}
+use Rattle.sv_packet.proofs.told_of_parts.Formed.{regular_numbers_stop, regular_text_stop, regular_less}
+use Rattle.sv_packet.proofs.told_of_parts.Formed.{regular_all}
 use Rattle.sv_packet.proofs.counted.regular.Goals as goal
 
 pub returns-in_default : goal.returns-in_default

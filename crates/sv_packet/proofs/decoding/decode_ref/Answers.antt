@@ -3,9 +3,9 @@ use Rattle.sv_prim.proofs.Shared.{told_only}
 use Rattle.sv_packet.specs.Packet.{IsPacket}
 use Rattle.sv_packet.specs.Reason.{packet_reason}
 use Rattle.sv_packet.specs.EventRef.{seen, got_seen}
-use Rattle.sv_packet.proofs.Free.{packet_free}
-use Rattle.sv_packet.proofs.Bodies.{packet_of}
-use Rattle.sv_packet.proofs.Stopping.{begins_slice, told_slice}
+use Rattle.sv_packet.proofs.one_spelling.Free.{packet_free}
+use Rattle.sv_packet.proofs.told_of_parts.Bodies.{packet_of}
+use Rattle.sv_packet.proofs.told_of_parts.Stopping.{begins_slice, told_slice}
 use Rattle.sv_packet.proofs.decoding.decode_ref.Goals as goal
 
 pub returns-in-Ok-clause-told : goal.returns-in-Ok-clause-told

@@ -2,11 +2,11 @@ use Rattle.std.proofs.Common.{ℕ, sym, subst, arith, inl, inr}
 use Rattle.std.proofs.lemmas.Result.{err_from_is_err_and}
 use Rattle.sv_packet.specs.Parts.{IsOfSize}
 use Rattle.sv_packet.specs.Made.{IsMade}
-use Rattle.sv_packet.specs.Reader.{Takes, numbers_in}
-use Rattle.sv_packet.proofs.Bodies.{id_fits}
-use Rattle.sv_packet.proofs.Stopping.{stops_at_id, stops_at_numbers, stops_at_text, stops_at_delta}
-use Rattle.sv_packet.proofs.Stopping.{takes_bare, stops_at_length, stops_at_payload, stops_at_last}
-use Rattle.sv_packet.proofs.Stopping.{takes_counted}
+use Rattle.sv_packet.specs.Reader.{TakesPart, numbers_in}
+use Rattle.sv_packet.proofs.told_of_parts.Bodies.{id_fits}
+use Rattle.sv_packet.proofs.told_of_parts.Stopping.{stops_at_id, stops_at_numbers, stops_at_text, stops_at_delta}
+use Rattle.sv_packet.proofs.told_of_parts.Stopping.{takes_bare, stops_at_length, stops_at_payload, stops_at_last}
+use Rattle.sv_packet.proofs.told_of_parts.Stopping.{takes_counted}
 use Rattle.sv_packet.proofs.decoding.read_parts.Goals as goal
 
 pub returns-in_err-id : goal.returns-in_err-id
@@ -43,7 +43,7 @@ returns-in_err-delta c =
     let took =
     subst
     (λ (k : ℕ).
-    Takes (IsOfSize k) c.length.new.self c.take.new.self c.in_ok-bytes.bytes.now) c.from.ensures
+    TakesPart (IsOfSize k) c.length.new.self c.take.new.self c.in_ok-bytes.bytes.now) c.from.ensures
     c.in_ok-bytes.ensures in
     rw (p.1, p.2)
     (stops_at_last c.args.reader.now c.identifier.new.self c.in_ok-id.id c.in_ok-id.ensures
@@ -92,7 +92,7 @@ returns-then-id-ge24 c =
     let took =
     subst
     (λ (k : ℕ).
-    Takes (IsOfSize k) c.length.new.self c.take.new.self c.in_ok-bytes.bytes.now) c.from.ensures
+    TakesPart (IsOfSize k) c.length.new.self c.take.new.self c.in_ok-bytes.bytes.now) c.from.ensures
     c.in_ok-bytes.ensures in
     record {
       known = c.in_ok-id.ensures.spelled.spelled.1;

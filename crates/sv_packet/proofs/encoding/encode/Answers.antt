@@ -1,8 +1,8 @@
 use Rattle.std.proofs.Common.{◌∙◌, ◌++◌, List, ℕ, length, sym, ap, subst, arith}
 use Rattle.sv_packet.specs.Packet.{IsPacket}
 use Rattle.sv_packet.specs.Spelling.{spelling_of}
-use Rattle.sv_packet.proofs.Sizes.{payload_small}
-use Rattle.sv_packet.proofs.Spelled.{packet_spelled}
+use Rattle.sv_packet.proofs.how_long.Sizes.{payload_small}
+use Rattle.sv_packet.proofs.one_spelling.Spelled.{packet_spelled}
 use Rattle.sv_packet.proofs.encoding.encode.Goals as goal
 
 pub put_packet-requires-clause-room : goal.put_packet-requires-clause-room

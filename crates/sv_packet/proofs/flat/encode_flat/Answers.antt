@@ -1,7 +1,7 @@
 use Rattle.std.proofs.Common.{length, ap, arith}
 use Rattle.sv_prim.proofs.Shared.{are_bytes}
-use Rattle.sv_packet.proofs.Flats.{flat_few, text_few}
-use Rattle.sv_packet.proofs.Sizes.{plain_small, texted_small}
+use Rattle.sv_packet.proofs.how_long.Flats.{flat_few, text_few}
+use Rattle.sv_packet.proofs.how_long.Sizes.{plain_small, texted_small}
 use Rattle.sv_packet.proofs.flat.encode_flat.Goals as goal
 
 pub put_texted-requires-clause-room : goal.put_texted-requires-clause-room

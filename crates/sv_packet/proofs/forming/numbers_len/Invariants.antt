@@ -1,4 +1,4 @@
-use Rattle.sv_packet.proofs.Adding.{Counted}
+use Rattle.sv_packet.proofs.lists.Adding.{Counted}
 use Rattle.sv_packet.proofs.forming.numbers_len.Given as goal
 
 abbrev pub invariant-loop-number : goal.invariant-loop-number

@@ -1,5 +1,5 @@
 use Rattle.std.proofs.Common.{arith}
-use Rattle.sv_packet.proofs.Adding.{has_room, are_words}
+use Rattle.sv_packet.proofs.lists.Adding.{has_room, are_words}
 use Rattle.sv_packet.proofs.forming.put_numbers.Goals as goal
 
 pub number-requires : goal.number-requires

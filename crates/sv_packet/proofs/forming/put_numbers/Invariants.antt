@@ -1,4 +1,4 @@
-use Rattle.sv_packet.proofs.Adding.{Progress}
+use Rattle.sv_packet.proofs.lists.Adding.{Progress}
 use Rattle.sv_packet.proofs.forming.put_numbers.Given as goal
 
 abbrev pub invariant-loop-number : goal.invariant-loop-number

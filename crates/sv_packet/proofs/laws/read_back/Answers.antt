@@ -3,7 +3,7 @@ use Rattle.std.proofs.lemmas.List.{length-append}
 use Rattle.std.proofs.Math.Seq.{take-append_seam}
 use Rattle.sv_packet.specs.Packet.{IsPacket}
 use Rattle.sv_packet.specs.Spelling.{spelling_of}
-use Rattle.sv_packet.proofs.Spelled.{packet_law}
+use Rattle.sv_packet.proofs.one_spelling.Spelled.{packet_law}
 use Rattle.sv_packet.proofs.laws.read_back.Goals as goal
 
 pub returns : goal.returns

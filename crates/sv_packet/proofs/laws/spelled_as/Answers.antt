@@ -1,4 +1,4 @@
-use Rattle.sv_packet.proofs.Spelled.{packet_law}
+use Rattle.sv_packet.proofs.one_spelling.Spelled.{packet_law}
 use Rattle.sv_packet.proofs.laws.spelled_as.Goals as goal
 
 pub returns : goal.returns

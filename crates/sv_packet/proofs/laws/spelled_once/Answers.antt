@@ -1,5 +1,5 @@
-use Rattle.sv_packet.proofs.Free.{packet_free}
-use Rattle.sv_packet.proofs.Totality.{packet_total, reason_one}
+use Rattle.sv_packet.proofs.one_spelling.Free.{packet_free}
+use Rattle.sv_packet.proofs.one_spelling.Totality.{packet_total, reason_one}
 use Rattle.sv_packet.proofs.laws.spelled_once.Goals as goal
 
 pub returns-clause-free : goal.returns-clause-free

@@ -1,5 +1,5 @@
 use Rattle.std.proofs.Common.{arith}
-use Rattle.sv_packet.proofs.Parts.{print_len, few_args}
+use Rattle.sv_packet.proofs.one_spelling.Parts.{print_len, few_args}
 use Rattle.sv_packet.proofs.measuring.print_len.Goals as goal
 
 pub overflow_cast-count : goal.overflow_cast-count

@@ -1,5 +1,5 @@
 use Rattle.std.proofs.Common.{arith}
-use Rattle.sv_packet.proofs.Counts.{takes_more, not_numbers, numbers_taken}
+use Rattle.sv_packet.proofs.how_long.Counts.{takes_more, not_numbers, numbers_taken}
 use Rattle.sv_packet.proofs.numbers_ref.numbers.Goals as goal
 
 pub unreachable-requires : goal.unreachable-requires

@@ -1,6 +1,6 @@
 use Rattle.std.proofs.Common.{ℕ, ◌++◌, ap, ◌∙◌, length, arith}
 use Rattle.sv_packet.specs.Spelling.{head_spelling}
-use Rattle.sv_packet.proofs.Parts.{numbers_fields, numbers_range, plain_written}
+use Rattle.sv_packet.proofs.one_spelling.Parts.{numbers_fields, numbers_range, plain_written}
 use Rattle.sv_packet.proofs.packing.put_plain.Goals as goal
 
 pub put_head-requires-clause-small : goal.put_head-requires-clause-small

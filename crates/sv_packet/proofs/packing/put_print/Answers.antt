@@ -1,6 +1,6 @@
 use Rattle.std.proofs.Common.{◌≡◌, ◌+◌, length, arith}
 use Rattle.sv_packet.specs.Spelling.{print_payload}
-use Rattle.sv_packet.proofs.Parts.{print_len, few_args, print_range, print_written}
+use Rattle.sv_packet.proofs.one_spelling.Parts.{print_len, few_args, print_range, print_written}
 use Rattle.sv_packet.proofs.packing.put_print.Goals as goal
 
 pub overflow_cast-count : goal.overflow_cast-count

@@ -1,9 +1,9 @@
 use Rattle.std.proofs.Common.{◌≡◌, ℕ, ◌+◌, ◌++◌, ap, ◌∙◌, length, arith}
 use Rattle.sv_packet.specs.Spelling.{head_spelling}
-use Rattle.sv_packet.proofs.Parts.{texted_len, texted_range, texted_written}
+use Rattle.sv_packet.proofs.one_spelling.Parts.{texted_len, texted_range, texted_written}
 use Rattle.sv_prim.specs.Number.{numbers_spelling}
 use Rattle.sv_prim.specs.Text.{text_spelling}
-use Rattle.sv_packet.proofs.Sizes.{text_small}
+use Rattle.sv_packet.proofs.how_long.Sizes.{text_small}
 use Rattle.sv_packet.proofs.packing.put_texted.Goals as goal
 
 pub overflow_add-numbers_len : goal.overflow_add-numbers_len

@@ -1,7 +1,7 @@
 use Rattle.std.proofs.Common.{refl, sym, arith}
 use Rattle.std.proofs.lemmas.Bool.{eqb-true}
 use Rattle.sv_prim.proofs.Shared.{are_bytes}
-use Rattle.sv_packet.proofs.Shorts.{cut_short, breaks, is_not}
+use Rattle.sv_packet.proofs.one_spelling.Shorts.{cut_short, breaks, is_not}
 use Rattle.sv_packet.proofs.reader.get_short.Goals as goal
 
 pub returns-then-is_empty : goal.returns-then-is_empty

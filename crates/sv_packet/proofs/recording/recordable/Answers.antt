@@ -1,5 +1,5 @@
 use Rattle.std.proofs.Common.{arith, refl}
-use Rattle.sv_packet.proofs.Taken.{print_law, numbers_recordable}
+use Rattle.sv_packet.proofs.how_long.Taken.{print_law, numbers_recordable}
 use Rattle.sv_packet.proofs.recording.recordable.Goals as goal
 
 pub returns-then-bytes-le128 : goal.returns-then-bytes-le128

@@ -2,8 +2,8 @@ use Rattle.std.proofs.Common.{◌≤◌, length, ap, subst, arith}
 use Rattle.sv_packet.specs.declared.event.Event.{Event}
 use Rattle.sv_packet.specs.Spelling.{payload_of, print_payload, IsValid}
 use Rattle.sv_prim.specs.Number.{numbers_spelling}
-use Rattle.sv_packet.proofs.Parts.{print_len}
-use Rattle.sv_packet.proofs.Sizes.{text_small, numbers_small}
+use Rattle.sv_packet.proofs.one_spelling.Parts.{print_len}
+use Rattle.sv_packet.proofs.how_long.Sizes.{text_small, numbers_small}
 use Rattle.sv_prim.proofs.Shared.{of_few}
 use Rattle.sv_packet.proofs.spelling.most_len.Goals as goal
 

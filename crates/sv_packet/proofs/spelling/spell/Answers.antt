@@ -1,4 +1,4 @@
-use Rattle.sv_packet.proofs.Spelled.{packet_spelled}
+use Rattle.sv_packet.proofs.one_spelling.Spelled.{packet_spelled}
 use Rattle.sv_packet.proofs.spelling.spell.Goals as goal
 
 pub returns-clause-packet : goal.returns-clause-packet

@@ -3,7 +3,7 @@ use Rattle.sv_packet.specs.Spelling.{spelling_of}
 use Rattle.sv_journal.specs.declared.journal.Origin.TheVariants.{Reply}
 use Rattle.sv_journal.specs.Items.{reply_event}
 use Rattle.sv_recorder.specs.Formed.{block_bytes}
-use Rattle.sv_recorder.proofs.Entries.{block_short}
+use Rattle.sv_recorder.proofs.moving.Entries.{block_short}
 use Rattle.sv_recorder.proofs.packet.form.Goals as goal
 
 pub returns-in-Reply-clause-short : goal.returns-in-Reply-clause-short

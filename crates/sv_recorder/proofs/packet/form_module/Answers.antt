@@ -1,6 +1,6 @@
-use Rattle.std.proofs.Common.{◌≡◌, ap, sym, ◌∙◌}
+use Rattle.std.proofs.Common.{ap, sym, ◌∙◌}
 use Rattle.std.specs.Prelude.{slice_get}
-use Rattle.sv_recorder.proofs.Rows.{module_short}
+use Rattle.sv_recorder.proofs.steps.Rows.{module_short}
 use Rattle.sv_recorder.proofs.packet.form_module.Goals as goal
 
 pub encode_flat-requires-clause-text : goal.encode_flat-requires-clause-text

@@ -1,6 +1,6 @@
 use Rattle.std.proofs.Common.{◌≡◌, ℕ, ◌<◌, true, length}
 use Rattle.std.specs.Prelude.{count_by}
-use Rattle.sv_workload.specs.Load.{script_of}
+use Rattle.sv_load.specs.Load.{script_of}
 use Rattle.sv_journal.specs.Items.{is_call_of}
 use Rattle.sv_run.proofs.rest.round.Given as goal
 

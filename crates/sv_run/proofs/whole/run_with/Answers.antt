@@ -1,6 +1,6 @@
 use Rattle.std.proofs.Common.{List, ℕ, ap, ◌∙◌}
 use Rattle.std.specs.Prelude.{flat_map}
-use Rattle.sv_workload.specs.Load.{Load}
+use Rattle.sv_load.specs.Load.{Load}
 use Rattle.sv_recorder.specs.Commands.{command_bytes}
 use Rattle.sv_run.proofs.Ends.{fed_whole, whole_run}
 use Rattle.sv_run.proofs.whole.run_with.Goals as goal

@@ -1,6 +1,6 @@
 use Rattle.std.proofs.Common.{◌≡◌, ◌∷◌, sym, ap, ◌∙◌}
 use Rattle.sv_workload.specs.Checks.{fits_command}
-use Rattle.sv_workload.proofs.Commands.{fits_by}
+use Rattle.sv_workload.proofs.fit_lines.Commands.{fits_by}
 use Rattle.sv_workload.proofs.command_words.fits_command.Goals as goal
 
 pub returns-in-Some-capped_number : goal.returns-in-Some-capped_number

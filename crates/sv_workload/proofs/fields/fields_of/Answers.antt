@@ -3,14 +3,14 @@ use Rattle.std.proofs.Common.{length, sym, ap, subst, ◌∙◌}
 use Rattle.std.specs.Prelude.{min, unwrap_or, option_and_then}
 use Rattle.std.specs.List.{list_all}
 use Rattle.std.specs.Option.{option_map_or}
-use Rattle.sv_workload.specs.Words.{number_of}
+use Rattle.sv_text.specs.Words.{number_of}
 use Rattle.sv_workload.specs.Numbers.{counts_as}
 use Rattle.sv_workload.specs.Forms.{Form, between, form_of}
 use Rattle.sv_workload.specs.Line.{Line}
-use Rattle.sv_workload.specs.Limits.{most_ticks}
+use Rattle.sv_load.specs.Limits.{most_ticks}
 use Rattle.sv_workload.specs.Checks.{is_word, is_within, are_within}
-use Rattle.sv_workload.proofs.Passing.{Leaves, the_state}
-use Rattle.sv_workload.proofs.Fielded.{Tells, told}
+use Rattle.sv_workload.proofs.words_read.Passing.{Leaves, the_state}
+use Rattle.sv_workload.proofs.words_read.Fielded.{Tells, told}
 use Rattle.sv_workload.proofs.fields.fields_of.Goals as goal
 
 -- the form as it stands in the code

@@ -1,7 +1,7 @@
 use Rattle.std.proofs.Common.{List, ap, ◌∙◌}
 use Rattle.sv_workload.specs.declared.keyword.Keyword.{Keyword}
 use Rattle.sv_workload.specs.Keywords.{other_keywords, keyword_among}
-use Rattle.sv_workload.proofs.Keywords.{among_of_length}
+use Rattle.sv_workload.proofs.words_read.Keywords.{among_of_length}
 use Rattle.sv_workload.proofs.keyword.other_keyword.Goals as goal
 
 pub returns : goal.returns

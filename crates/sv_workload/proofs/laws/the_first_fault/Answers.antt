@@ -1,6 +1,6 @@
 use Rattle.std.proofs.Common.{◌≡◌, ℕ, ◌+◌, [], Some, ap, ◌∙◌, arith}
-use Rattle.sv_workload.specs.Lines.{lines_of}
-use Rattle.sv_workload.proofs.FirstFault.{first_at, all_good}
+use Rattle.sv_text.specs.Lines.{lines_of}
+use Rattle.sv_workload.proofs.whole_text.FirstFault.{first_at, all_good}
 use Rattle.sv_workload.proofs.laws.the_first_fault.Goals as goal
 
 pub returns-clause-some : goal.returns-clause-some

@@ -1,7 +1,7 @@
 use Rattle.std.proofs.Common.{ℕ, List, sym, ap, ◌∙◌}
 use Rattle.sv_workload.specs.declared.keyword.Keyword.{Keyword}
 use Rattle.sv_workload.specs.Meaning.{action_by}
-use Rattle.sv_workload.proofs.Capping.{turn_numbers}
+use Rattle.sv_workload.proofs.fit_lines.Capping.{turn_numbers}
 use Rattle.sv_workload.proofs.parts.action.Goals as goal
 
 pub returns : goal.returns

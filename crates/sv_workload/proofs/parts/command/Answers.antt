@@ -1,8 +1,8 @@
 use Rattle.std.proofs.Common.{◌≡◌, ℕ, ◌<◌, List, get_or, sym, ap, subst, ◌∙◌, slice_index}
 use Rattle.sv_workload.specs.Meaning.{command_of}
-use Rattle.sv_workload.specs.Need.{IsAsked}
-use Rattle.sv_workload.proofs.Capping.{command_numbers}
-use Rattle.sv_workload.proofs.Commands.{are_asked}
+use Rattle.sv_load.specs.Need.{IsAsked}
+use Rattle.sv_workload.proofs.fit_lines.Capping.{command_numbers}
+use Rattle.sv_workload.proofs.fit_lines.Commands.{are_asked}
 use Rattle.sv_workload.proofs.parts.command.Goals as goal
 
 pub command_by-requires-clause-byte : goal.command_by-requires-clause-byte

@@ -1,4 +1,4 @@
-use Rattle.sv_workload.proofs.FitSteps.{step_of}
+use Rattle.sv_workload.proofs.fit_lines.FitSteps.{step_of}
 use Rattle.sv_workload.proofs.parts.step.Goals as goal
 
 pub returns-clause-ok : goal.returns-clause-ok

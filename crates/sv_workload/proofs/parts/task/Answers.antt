@@ -1,8 +1,8 @@
 use Rattle.std.proofs.Common.{◌≡◌, ℕ, List, ap, subst, ◌∙◌, slice_index, IfOk}
-use Rattle.sv_workload.specs.declared.load.Task.{Task}
+use Rattle.sv_load.specs.declared.load.Task.{Task}
 use Rattle.sv_workload.specs.Line.{numbers_of}
-use Rattle.sv_workload.specs.Meaning.{task_of}
-use Rattle.sv_workload.proofs.Capping.{task_numbers}
+use Rattle.sv_workload.specs.Meaning.{task_in}
+use Rattle.sv_workload.proofs.fit_lines.Capping.{task_numbers}
 use Rattle.sv_workload.proofs.parts.task.Goals as goal
 
 -- a task of these numbers and this name
@@ -21,7 +21,7 @@ pub returns : goal.returns
 returns c = λ word fit.
     let line = c.args.line.now in
     let numbers = c.numbers.ensures in
-    let same : task_from c.numbers.result.now c.text.result.now ≡ task_of line =
+    let same : task_from c.numbers.result.now c.text.result.now ≡ task_in line =
     ap (λ (ns : List ℕ). task_from ns c.text.result.now) (numbers ∙ task_numbers line word fit) ∙ ap
     (λ (t : List ℕ). task_from (numbers_of line) t) c.text.ensures in
     subst (λ (made : Task). IfOk c.named_task.result (λ t. t ≡ made)) same c.named_task.ensures

@@ -5,7 +5,7 @@ use Rattle.std.proofs.lemmas.List.{nil_from_length}
 use Rattle.sv_workload.specs.declared.fault.LineFault.{LineFault}
 use Rattle.sv_workload.specs.Reason.{reason_of}
 use Rattle.sv_workload.specs.Grammar.{fault_at, first_fault}
-use Rattle.sv_workload.proofs.Walking.{walk_goes_on, walk_stops, walk_ends}
+use Rattle.sv_workload.proofs.whole_text.Walking.{walk_goes_on, walk_stops, walk_ends}
 use Rattle.sv_workload.proofs.text.parse.Goals as goal
 
 pub returns-in-Some-clause-line : goal.returns-in-Some-clause-line
@@ -38,4 +38,4 @@ returns-clause-ok c =
     let end = walk_ends c.args.text.now c.loop-rest.rest.now c.loop-rest.draft c.loop-rest.number
     c.loop-rest.invariant (nil_from_length c.loop-rest.rest.now
     (eqb-true _ _ (sym c.loop-rest-test.ensures))) in
-    record { good = end.0; meaning = c.of.ensures ∙ end.1 }
+    record { good = end.0; meaning = c.into_workload.ensures ∙ end.1 }

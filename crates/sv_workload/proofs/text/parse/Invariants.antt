@@ -1,5 +1,5 @@
 use Rattle.std.proofs.Common.{length}
-use Rattle.sv_workload.proofs.Walking.{Walk}
+use Rattle.sv_workload.proofs.whole_text.Walking.{Walk}
 use Rattle.sv_workload.proofs.text.parse.Given as goal
 
 abbrev pub invariant-loop-rest : goal.invariant-loop-rest

@@ -1,5 +1,5 @@
 use Rattle.std.proofs.Common.{◌∙◌, refl, sym, arith}
-use Rattle.sv_packet.proofs.ReadNumbers.{first_taken, not_first}
+use Rattle.sv_packet.proofs.told_of_parts.ReadNumbers.{first_taken, not_first}
 use Rattle.sv_packet.proofs.numbers_ref.NumbersRef.first.Goals as goal
 
 pub invariant_of-result : goal.invariant_of-result

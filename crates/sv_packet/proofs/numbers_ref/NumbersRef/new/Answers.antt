@@ -1,4 +1,4 @@
-use Rattle.sv_packet.proofs.ReadNumbers.{read_are}
+use Rattle.sv_packet.proofs.told_of_parts.ReadNumbers.{read_are}
 use Rattle.sv_packet.proofs.numbers_ref.NumbersRef.new.Goals as goal
 
 pub invariant_of-result : goal.invariant_of-result

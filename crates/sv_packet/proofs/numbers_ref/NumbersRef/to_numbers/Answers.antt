@@ -1,4 +1,4 @@
-use Rattle.sv_packet.proofs.ReadNumbers.{ok_read}
+use Rattle.sv_packet.proofs.told_of_parts.ReadNumbers.{ok_read}
 use Rattle.sv_packet.proofs.numbers_ref.NumbersRef.to_numbers.Goals as goal
 
 pub returns : goal.returns

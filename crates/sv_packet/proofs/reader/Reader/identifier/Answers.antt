@@ -1,5 +1,5 @@
 use Rattle.std.proofs.lemmas.Result.{err_from_is_err_and}
-use Rattle.sv_packet.proofs.Shorts.{takes_identifier, refuses_23, stops_identifier}
+use Rattle.sv_packet.proofs.one_spelling.Shorts.{takes_identifier, refuses_23, stops_identifier}
 use Rattle.sv_packet.proofs.reader.Reader.identifier.Goals as goal
 
 pub returns-in_err-id : goal.returns-in_err-id

@@ -1,7 +1,7 @@
 use Rattle.std.proofs.Common.{◌≡◌, [], arith}
 use Rattle.std.proofs.lemmas.Result.{err_from_is_err_and}
-use Rattle.sv_packet.proofs.Counts.{takes_none, takes_one, takes_two, takes_three, takes_more}
-use Rattle.sv_packet.proofs.Counts.{stops_among}
+use Rattle.sv_packet.proofs.how_long.Counts.{takes_none, takes_one, takes_two, takes_three, takes_more}
+use Rattle.sv_packet.proofs.how_long.Counts.{stops_among}
 use Rattle.sv_packet.proofs.reader.Reader.numbers.Goals as goal
 
 pub returns-in_err-four : goal.returns-in_err-four

@@ -2,8 +2,8 @@ use Rattle.std.proofs.Common.{ℕ, ◌<◌, ◌≤◌, List, length, refl, sym, 
 use Rattle.std.proofs.lemmas.Bool.{cases_lt}
 use Rattle.sv_prim.specs.Text.{AreBytes}
 use Rattle.sv_packet.specs.Reader.{left}
-use Rattle.sv_packet.proofs.Pieces.{size_short, size_begins, slice_from}
-use Rattle.sv_packet.proofs.Shorts.{is_not}
+use Rattle.sv_packet.proofs.told_of_parts.Pieces.{size_short, size_begins, slice_from}
+use Rattle.sv_packet.proofs.one_spelling.Shorts.{is_not}
 use Rattle.sv_packet.proofs.reader.Reader.take.Goals as goal
 
 pub returns-then-not-has : goal.returns-then-not-has

@@ -1,7 +1,7 @@
 use Rattle.std.proofs.Common.{ℕ, List, refl, subst}
 use Rattle.sv_prim.specs.Code.{BreaksAt}
 use Rattle.sv_prim.specs.TextAt.{IsTextAt}
-use Rattle.sv_packet.proofs.Pieces.{text_breaks, slice_from}
+use Rattle.sv_packet.proofs.told_of_parts.Pieces.{text_breaks, slice_from}
 use Rattle.sv_packet.proofs.reader.Reader.text.Goals as goal
 
 pub returns-in-Bad : goal.returns-in-Bad

@@ -1,7 +1,7 @@
 use Rattle.std.proofs.Common.{sym, subst}
 use Rattle.sv_recorder.specs.Replies.{Gives}
-use Rattle.sv_recorder.proofs.Giving.{gives-none}
-use Rattle.sv_recorder.proofs.Groups.{no_answers}
+use Rattle.sv_recorder.proofs.steps.Giving.{gives-none}
+use Rattle.sv_recorder.proofs.keeping.Groups.{no_answers}
 use Rattle.sv_recorder.proofs.book.Book.answer.Goals as goal
 
 pub returns-in_default : goal.returns-in_default

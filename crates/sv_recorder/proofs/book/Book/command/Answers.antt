@@ -2,8 +2,8 @@ use Rattle.std.proofs.Common.{◌≢◌, subst}
 use Rattle.sv_journal.specs.declared.journal.Origin.TheVariants.{Command}
 use Rattle.sv_journal.specs.Legal.{command_answers}
 use Rattle.sv_recorder.specs.Replies.{Gives}
-use Rattle.sv_recorder.proofs.Books.{owes-gives, owes-goes}
-use Rattle.sv_recorder.proofs.Groups.{command_owes}
+use Rattle.sv_recorder.proofs.steps.Books.{owes-gives, owes-goes}
+use Rattle.sv_recorder.proofs.keeping.Groups.{command_owes}
 use Rattle.sv_recorder.proofs.book.Book.command.Goals as goal
 
 pub returns-in_default-clause-kept : goal.returns-in_default-clause-kept

@@ -3,7 +3,7 @@ use Rattle.sv_journal.specs.declared.journal.Kind.TheVariants as kinds
 use Rattle.sv_journal.specs.declared.journal.Origin.TheVariants.{Sync, Reply}
 use Rattle.sv_journal.specs.Legal.{init_replies, task_replies}
 use Rattle.sv_recorder.specs.Replies.{Gives}
-use Rattle.sv_recorder.proofs.Giving.{gives-then}
+use Rattle.sv_recorder.proofs.steps.Giving.{gives-then}
 use Rattle.sv_recorder.proofs.book.Book.describe.Goals as goal
 
 pub returns : goal.returns

@@ -1,4 +1,4 @@
-use Rattle.sv_recorder.proofs.Books.{event-holds}
+use Rattle.sv_recorder.proofs.steps.Books.{event-holds}
 use Rattle.sv_recorder.proofs.book.Book.event.Goals as goal
 
 pub returns-clause-kept : goal.returns-clause-kept

@@ -1,5 +1,5 @@
 use Rattle.std.proofs.Common.{refl}
-use Rattle.sv_recorder.proofs.Books.{noted-holds, noted-goes}
+use Rattle.sv_recorder.proofs.steps.Books.{noted-holds, noted-goes}
 use Rattle.sv_recorder.proofs.book.Book.handle.Goals as goal
 
 pub returns : goal.returns

@@ -3,7 +3,7 @@ use Rattle.sv_journal.specs.declared.journal.Kind.TheVariants as kinds
 use Rattle.sv_journal.specs.declared.journal.Origin.TheVariants.{Reply}
 use Rattle.sv_journal.specs.Legal.{replies_for}
 use Rattle.sv_recorder.specs.Replies.{IsReadyFor, IsGiving}
-use Rattle.sv_recorder.proofs.Giving as giving
+use Rattle.sv_recorder.proofs.steps.Giving as giving
 use Rattle.sv_recorder.proofs.book.Book.lines.Goals as goal
 
 pub loop-index-init : goal.loop-index-init
@@ -23,7 +23,8 @@ reply-requires-clause-ready g c =
     ) in
     let rest = giving.giving-ready old mid (replies_for kinds.Line load.lines)
     (giving.replies_left kinds.Line load.lines k) c.requires.ready c.loop-index.invariant in
-    giving.ready-first mid (Reply kinds.Line k ∷ []) (giving.replies_left kinds.Line load.lines (k + 1))
+    giving.ready-first mid (Reply kinds.Line k ∷ []) (giving.replies_left kinds.Line load.lines
+    (k + 1))
     (subst (λ os. IsReadyFor os mid) (giving.lines-next load k more) rest)
 
 pub loop-index-preserved : goal.loop-index-preserved

@@ -1,7 +1,7 @@
 use Rattle.sv_journal.specs.declared.journal.Kind.TheVariants as kinds
 use Rattle.sv_journal.specs.Legal.{replies_for}
 use Rattle.sv_recorder.specs.Replies.{IsGiving}
-use Rattle.sv_recorder.proofs.Giving.{replies_left}
+use Rattle.sv_recorder.proofs.steps.Giving.{replies_left}
 use Rattle.sv_recorder.proofs.book.Book.lines.Given as goal
 
 abbrev pub invariant-loop-index : goal.invariant-loop-index

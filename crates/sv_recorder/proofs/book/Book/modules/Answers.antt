@@ -3,7 +3,7 @@ use Rattle.sv_journal.specs.declared.journal.Kind.TheVariants as kinds
 use Rattle.sv_journal.specs.declared.journal.Origin.TheVariants.{Reply}
 use Rattle.sv_journal.specs.Legal.{replies_for}
 use Rattle.sv_recorder.specs.Replies.{IsReadyFor, IsGiving}
-use Rattle.sv_recorder.proofs.Giving as giving
+use Rattle.sv_recorder.proofs.steps.Giving as giving
 use Rattle.sv_recorder.proofs.book.Book.modules.Goals as goal
 
 pub loop-index-init : goal.loop-index-init
@@ -24,7 +24,8 @@ reply-requires-clause-ready g c =
     ) in
     let rest = giving.giving-ready old mid (replies_for kinds.Module load.modules)
     (giving.replies_left kinds.Module load.modules k) c.requires.ready c.loop-index.invariant in
-    giving.ready-first mid (Reply kinds.Module k ∷ []) (giving.replies_left kinds.Module load.modules (k + 1))
+    giving.ready-first mid (Reply kinds.Module k ∷ [])
+    (giving.replies_left kinds.Module load.modules (k + 1))
     (subst (λ os. IsReadyFor os mid) (giving.modules-next load k more) rest)
 
 pub loop-index-preserved : goal.loop-index-preserved

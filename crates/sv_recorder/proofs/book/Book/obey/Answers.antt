@@ -1,4 +1,4 @@
-use Rattle.sv_recorder.proofs.Books.{obeys}
+use Rattle.sv_recorder.proofs.steps.Books.{obeys}
 use Rattle.sv_recorder.proofs.book.Book.obey.Goals as goal
 
 pub returns-in-Some : goal.returns-in-Some

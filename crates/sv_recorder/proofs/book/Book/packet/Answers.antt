@@ -1,14 +1,14 @@
 use Rattle.std.proofs.Common.{refl, arith}
 use Rattle.std.specs.Prelude.{not}
 use Rattle.sv_journal.specs.declared.journal.Outcome.TheVariants.{Ignored}
+use Rattle.sv_journal.specs.Items.{latest_first, is_stop_reply}
 use Rattle.sv_recorder.specs.Book.{head_if}
 use Rattle.sv_recorder.specs.Formed.{packet_bytes}
-use Rattle.sv_journal.specs.Items.{latest_first, is_stop_reply}
-use Rattle.sv_recorder.proofs.Entries.{and-not, headed_one, gains_one}
-use Rattle.sv_recorder.proofs.Holds.{ignored-holds}
-use Rattle.sv_recorder.proofs.Freed.{ignored_unwritten}
-use Rattle.sv_recorder.proofs.Goes.{goes-note, goes-less}
-use Rattle.sv_recorder.proofs.Packets.{not_overflow}
+use Rattle.sv_recorder.proofs.moving.Entries.{and-not, headed_one, gains_one}
+use Rattle.sv_recorder.proofs.keeping.Holds.{ignored-holds}
+use Rattle.sv_recorder.proofs.moving.Freed.{ignored_unwritten}
+use Rattle.sv_recorder.proofs.moving.Goes.{goes-note, goes-less}
+use Rattle.sv_recorder.proofs.keeping.Packets.{not_overflow}
 use Rattle.sv_recorder.proofs.book.Book.packet.Goals as goal
 
 pub returns-then-not-self-clause-kept : goal.returns-then-not-self-clause-kept

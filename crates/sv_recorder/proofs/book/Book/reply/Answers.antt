@@ -1,4 +1,4 @@
-use Rattle.sv_recorder.proofs.Giving.{gives-reply}
+use Rattle.sv_recorder.proofs.steps.Giving.{gives-reply}
 use Rattle.sv_recorder.proofs.book.Book.reply.Goals as goal
 
 pub returns : goal.returns

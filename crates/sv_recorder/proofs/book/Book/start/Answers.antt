@@ -1,8 +1,8 @@
-use Rattle.std.proofs.Common.{sym, ap, subst, ◌||◌, ◌∙◌, true}
+use Rattle.std.proofs.Common.{sym, ap, subst, ◌||◌, ◌∙◌}
 use Rattle.sv_journal.specs.Legal.{start_answers}
 use Rattle.sv_recorder.specs.Replies.{Gives, IsReadyFor}
-use Rattle.sv_recorder.proofs.Books.{owes-gives, owes-goes, owes-ready, one_ready}
-use Rattle.sv_recorder.proofs.Groups.{start_owes}
+use Rattle.sv_recorder.proofs.steps.Books.{owes-gives, owes-goes, owes-ready, one_ready}
+use Rattle.sv_recorder.proofs.keeping.Groups.{start_owes}
 use Rattle.sv_recorder.proofs.book.Book.start.Goals as goal
 
 pub handle-requires-clause-control : goal.handle-requires-clause-control

@@ -1,12 +1,11 @@
-use Rattle.std.proofs.Common.{refl, sym, ap, arith, ◌||◌, ◌∷◌, []}
+use Rattle.std.proofs.Common.{refl, sym, ap, ◌||◌, ◌∷◌, []}
 use Rattle.sv_journal.specs.declared.journal.Kind.TheVariants as kinds
 use Rattle.sv_journal.specs.declared.journal.Origin.TheVariants.{Reply}
-use Rattle.sv_recorder.specs.Book.{Goes}
 use Rattle.sv_recorder.specs.Formed.{packet_bytes}
-use Rattle.sv_recorder.proofs.Books.{owes-goes, owes-ready, one_ready, stop-holds}
-use Rattle.sv_recorder.proofs.Giving.{goes_one, ready_one}
-use Rattle.sv_recorder.proofs.Goes.{goes-to}
-use Rattle.sv_recorder.proofs.Groups.{stop_owes}
+use Rattle.sv_recorder.proofs.steps.Books.{owes-goes, owes-ready, one_ready, stop-holds}
+use Rattle.sv_recorder.proofs.steps.Giving.{goes_one, ready_one}
+use Rattle.sv_recorder.proofs.moving.Goes.{goes-to}
+use Rattle.sv_recorder.proofs.keeping.Groups.{stop_owes}
 use Rattle.sv_recorder.proofs.book.Book.stop.Goals as goal
 
 pub handle-requires-clause-control : goal.handle-requires-clause-control

@@ -1,4 +1,4 @@
-use Rattle.sv_recorder.proofs.Books.{sync-holds, sync-goes}
+use Rattle.sv_recorder.proofs.steps.Books.{sync-holds, sync-goes}
 use Rattle.sv_recorder.proofs.book.Book.sync.Goals as goal
 
 pub returns : goal.returns

@@ -3,7 +3,7 @@ use Rattle.sv_journal.specs.declared.journal.Kind.TheVariants as kinds
 use Rattle.sv_journal.specs.declared.journal.Origin.TheVariants.{Reply}
 use Rattle.sv_journal.specs.Legal.{task_replies}
 use Rattle.sv_recorder.specs.Replies.{IsReadyFor, IsGiving}
-use Rattle.sv_recorder.proofs.Giving as giving
+use Rattle.sv_recorder.proofs.steps.Giving as giving
 use Rattle.sv_recorder.proofs.book.Book.tasks.Goals as goal
 
 pub loop-index-init : goal.loop-index-init

@@ -1,6 +1,6 @@
 use Rattle.sv_journal.specs.Legal.{task_replies}
 use Rattle.sv_recorder.specs.Replies.{IsGiving}
-use Rattle.sv_recorder.proofs.Giving.{tasks_left}
+use Rattle.sv_recorder.proofs.steps.Giving.{tasks_left}
 use Rattle.sv_recorder.proofs.book.Book.tasks.Given as goal
 
 abbrev pub invariant-loop-index : goal.invariant-loop-index

@@ -1,14 +1,15 @@
 use Rattle.std.proofs.Common.{◌∙◌, arith, refl, ap}
 use Rattle.sv_journal.specs.declared.journal.Origin.TheVariants.{Overflow}
 use Rattle.sv_journal.specs.declared.journal.Outcome.TheVariants.{Stored, Refused}
+use Rattle.sv_journal.specs.Items.{item_of}
 use Rattle.sv_recorder.specs.Book.{head_if}
 use Rattle.sv_recorder.specs.Formed.{packet_bytes, block_bytes, overflow_bytes}
-use Rattle.sv_recorder.specs.Writes.{made, outcome_if}
-use Rattle.sv_recorder.proofs.Entries.{as_long, gains_two}
-use Rattle.sv_recorder.proofs.Holds.{refused-holds, after-holds}
-use Rattle.sv_recorder.proofs.Moves.{ready_after}
-use Rattle.sv_recorder.proofs.OverflowMoves.{after-goes, refused-goes}
-use Rattle.sv_recorder.proofs.Goes.{goes-to}
+use Rattle.sv_recorder.specs.Writes.{outcome_if}
+use Rattle.sv_recorder.proofs.moving.Entries.{as_long, gains_two}
+use Rattle.sv_recorder.proofs.keeping.Holds.{refused-holds, after-holds}
+use Rattle.sv_recorder.proofs.moving.Moves.{ready_after}
+use Rattle.sv_recorder.proofs.moving.OverflowMoves.{after-goes, refused-goes}
+use Rattle.sv_recorder.proofs.moving.Goes.{goes-to}
 use Rattle.sv_recorder.proofs.book.Book.write_after_overflow.Goals as goal
 
 pub returns-then-not-write-clause-kept : goal.returns-then-not-write-clause-kept
@@ -63,7 +64,7 @@ returns-clause-records g c =
           c.requires.packet.telling c.requires.packet;
       on = c.settle.ensures.on ∙ c.write-stored.ensures.stays.on ∙ c.write.ensures.stays.on;
       item = gains_two old.journal.items c.write.new.self.journal.items
-          c.settle.new.self.journal.items (made (Overflow old.pending) old.moment
+          c.settle.new.self.journal.items (item_of (Overflow old.pending) old.moment
           (u.freed c.write.new.self.up) Stored) c.args.origin c.write.new.self.moment
           (u.freed c.write-stored.new.self.up) (outcome_if c.write-stored.result)
           c.outcome_of.result w.item
@@ -89,7 +90,7 @@ returns-then-not-write-clause-records g c =
           c.requires.packet.telling) refl refl refl refl refl (omega arith);
       on = c.note.ensures.stays.on ∙ c.write.ensures.stays.on;
       item = gains_two old.journal.items c.write.new.self.journal.items
-          c.note.new.self.journal.items (made (Overflow old.pending) old.moment
+          c.note.new.self.journal.items (item_of (Overflow old.pending) old.moment
           (u.freed c.write.new.self.up) Refused) c.args.origin c.write.new.self.moment
           (u.freed c.write.new.self.up) Refused Refused w.item c.note.ensures.item refl;
     }

@@ -1,8 +1,8 @@
 use Rattle.std.proofs.Common.{◌∙◌, ap}
 use Rattle.sv_recorder.specs.Writes.{outcome_if}
-use Rattle.sv_recorder.proofs.Entries.{as_long, gains_one}
-use Rattle.sv_recorder.proofs.Holds.{plain-holds}
-use Rattle.sv_recorder.proofs.Moves.{plain-goes}
+use Rattle.sv_recorder.proofs.moving.Entries.{as_long, gains_one}
+use Rattle.sv_recorder.proofs.keeping.Holds.{plain-holds}
+use Rattle.sv_recorder.proofs.moving.Moves.{plain-goes}
 use Rattle.sv_recorder.proofs.book.Book.write_plain.Goals as goal
 
 pub returns-clause-kept : goal.returns-clause-kept

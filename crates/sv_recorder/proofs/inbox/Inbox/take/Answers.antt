@@ -1,5 +1,5 @@
 use Rattle.std.proofs.Common.{arith, refl}
-use Rattle.sv_recorder.proofs.Inboxes.{takes_later}
+use Rattle.sv_recorder.proofs.steps.Inboxes.{takes_later}
 use Rattle.sv_recorder.proofs.inbox.Inbox.take.Goals as goal
 
 pub returns-in_default-clause-takes : goal.returns-in_default-clause-takes

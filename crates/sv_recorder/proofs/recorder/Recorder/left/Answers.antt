@@ -1,6 +1,6 @@
 use Rattle.std.proofs.Common.{length, ap, arith, refl}
-use Rattle.sv_recorder.proofs.Sections as sections
-use Rattle.sv_recorder.proofs.Views as views
+use Rattle.sv_recorder.proofs.steps.Sections as sections
+use Rattle.sv_recorder.proofs.steps.Views as views
 use Rattle.sv_recorder.proofs.recorder.Recorder.left.Goals as goal
 
 pub overflow_cast-result : goal.overflow_cast-result

@@ -1,5 +1,5 @@
 use Rattle.std.proofs.Common.{ap, ◌∙◌, vec_capacity, arith}
-use Rattle.sv_recorder.proofs.Fresh.{fresh, no_command, front_none}
+use Rattle.sv_recorder.proofs.steps.Fresh.{fresh, no_command, front_none}
 use Rattle.sv_recorder.proofs.recorder.Recorder.new.Goals as goal
 
 pub invariant_of-result : goal.invariant_of-result

@@ -1,13 +1,13 @@
 use Rattle.std.proofs.Common.{◌≡◌, ◌<◌, ◌∙◌, ◌+◌, arith, refl, sym, ap, length, subst}
 use Rattle.std.specs.Prelude.{slice_index_or, slice_set, Some}
-use Rattle.sv_workload.specs.declared.load.Step.{Step}
-use Rattle.sv_workload.specs.Load.{step_of}
-use Rattle.sv_workload.specs.Need.{IsStepAct}
+use Rattle.sv_load.specs.declared.load.Step.{Step}
+use Rattle.sv_load.specs.Load.{step_of}
+use Rattle.sv_load.specs.Need.{IsStepAct}
 use Rattle.sv_recorder.specs.Tells.{IsOver}
-use Rattle.sv_recorder.proofs.Recorders as recorders
-use Rattle.sv_recorder.proofs.Commands as commands
-use Rattle.sv_recorder.proofs.Sections as sections
-use Rattle.sv_recorder.proofs.Views as views
+use Rattle.sv_recorder.proofs.steps.Recorders as recorders
+use Rattle.sv_recorder.proofs.steps.Commands as commands
+use Rattle.sv_recorder.proofs.steps.Sections as sections
+use Rattle.sv_recorder.proofs.steps.Views as views
 use Rattle.sv_recorder.proofs.recorder.Recorder.section.Goals as goal
 
 pub bounds-steps-place : goal.bounds-steps-place

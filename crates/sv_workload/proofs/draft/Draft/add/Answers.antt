@@ -1,10 +1,10 @@
 use Rattle.std.proofs.Common.{◌≤◌, [], ◌∷◌, ◌++◌, length, sym, subst, ◌∙◌}
 use Rattle.std.proofs.lemmas.Result.{on_ok_weaker}
 use Rattle.sv_workload.specs.Draft.{Draft, Stands}
-use Rattle.sv_workload.proofs.Passed.{passes}
-use Rattle.sv_workload.proofs.Growing.{stands-writer, stands-schedule, stands-turn}
-use Rattle.sv_workload.proofs.Rooms.{fit_of, room_for_writer, room_for_turn, low_turn}
-use Rattle.sv_workload.proofs.Turns.{turn_is}
+use Rattle.sv_workload.proofs.first_check.Passed.{passes}
+use Rattle.sv_workload.proofs.lines_told.Growing.{stands-writer, stands-schedule, stands-turn}
+use Rattle.sv_workload.proofs.lines_told.Rooms.{fit_of, room_for_writer, room_for_turn, low_turn}
+use Rattle.sv_workload.proofs.lines_told.Turns.{turn_is}
 use Rattle.sv_workload.proofs.draft.Draft.add.Goals as goal
 
 pub add_writer-requires : goal.add_writer-requires
@@ -33,7 +33,7 @@ returns-in-Turn c =
     let line = c.args.line.now in
     let e = sym c.keyword.ensures ∙ c.in-Turn.is in
     let few : length c.args.self.now.scripts ≤ 16 = subst (λ (d : Draft). length d.scripts ≤ 16)
-    c.self.view_is c.self.invariant.few_scripts in
+    c.self.view_is c.writers.ensures.few in
     on_ok_weaker c.add_turn.result (λ now lines stands none.
     let passed = passes lines line none in
     let made = c.action.ensures e (fit_of lines line passed)
@@ -55,7 +55,7 @@ add_turn-requires-clause-turn c =
     let line = c.args.line.now in
     let e = sym c.keyword.ensures ∙ c.in-Turn.is in
     let few : length c.args.self.now.scripts ≤ 16 = subst (λ (d : Draft). length d.scripts ≤ 16)
-    c.self.view_is c.self.invariant.few_scripts in
+    c.self.view_is c.writers.ensures.few in
     let passed = passes good.0 line good.2 in
     let fit = fit_of good.0 line passed in
     let made = c.action.ensures e fit

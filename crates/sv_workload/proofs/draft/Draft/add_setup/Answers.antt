@@ -3,23 +3,25 @@ use Rattle.std.proofs.Common.{sym, ap, subst, ◌∙◌}
 use Rattle.sv_desc.specs.Modules.{is_full_for}
 use Rattle.std.specs.List.{list_all}
 use Rattle.std.proofs.lemmas.Result.{on_ok_weaker}
-use Rattle.sv_workload.specs.declared.load.Command.{Command}
-use Rattle.sv_workload.specs.declared.load.Task.{Task}
+use Rattle.sv_load.specs.declared.load.Command.{Command}
+use Rattle.sv_load.specs.declared.load.Task.{Task}
 use Rattle.sv_workload.specs.declared.keyword.Keyword.TheVariants.{Setup}
 use Rattle.sv_workload.specs.declared.keyword.SetupWord.TheVariants as setup
-use Rattle.sv_workload.specs.Line.{text_of}
-use Rattle.sv_workload.proofs.FitSteps.{text_most, text_some, task_words}
+use Rattle.sv_workload.specs.Line.{text_after}
+use Rattle.sv_workload.proofs.fit_lines.FitSteps.{text_most, text_some, task_words}
 use Rattle.sv_workload.specs.Forms.{is_in, form_of}
 use Rattle.sv_workload.specs.Settings.{tell}
-use Rattle.sv_workload.specs.Meaning.{number, task_of, row_of, command_of}
-use Rattle.sv_workload.specs.Need.{HasWords}
+use Rattle.sv_workload.specs.Meaning.{number, task_in, row_of, command_of}
+use Rattle.sv_load.specs.Need.{HasWords}
 use Rattle.sv_workload.specs.Draft.{Draft, Stands}
-use Rattle.sv_workload.proofs.Passed.{passes}
-use Rattle.sv_workload.proofs.Ranged.{tells_one}
-use Rattle.sv_workload.proofs.Growing.{stands-task, stands-time, stands-line, stands-module}
-use Rattle.sv_workload.proofs.Growing.{stands-command}
-use Rattle.sv_workload.proofs.Rooms.{fit_of, room_for_task, room_for_line, room_for_module, tells}
-use Rattle.sv_workload.proofs.Rooms.{room_for_command, told, module_events}
+use Rattle.sv_workload.proofs.first_check.Passed.{passes}
+use Rattle.sv_workload.proofs.fit_lines.Ranged.{tells_one}
+use Rattle.sv_workload.proofs.lines_told.Growing.{stands-task, stands-time, stands-line}
+use Rattle.sv_workload.proofs.lines_told.Growing.{stands-module}
+use Rattle.sv_workload.proofs.lines_told.Growing.{stands-command}
+use Rattle.sv_workload.proofs.lines_told.Rooms.{fit_of, room_for_task, room_for_line}
+use Rattle.sv_workload.proofs.lines_told.Rooms.{room_for_module, tells}
+use Rattle.sv_workload.proofs.lines_told.Rooms.{room_for_command, told, module_events}
 use Rattle.sv_workload.proofs.draft.Draft.add_setup.Goals as goal
 
 pub add_task-requires-clause-few : goal.add_task-requires-clause-few
@@ -34,9 +36,10 @@ add_task-requires-clause-name c =
     let line = c.args.line.now in
     let e = c.requires.keyword ∙ ap Setup c.in-Task.is in
     let fit = fit_of good.0 line (passes good.0 line good.2) in
-    let task : c.in_ok-task-in-Task.task ≡ task_of line = c.in_ok-task-in-Task.ensures e fit in
-    let short : length (text_of line) ≤ 32 = text_most line (Setup setup.Task) 32 e refl fit in
-    let some : 1 ≤ length (text_of line) = text_some line (Setup setup.Task) 32 e refl refl fit in (
+    let task : c.in_ok-task-in-Task.task ≡ task_in line = c.in_ok-task-in-Task.ensures e fit in
+    let short : length (text_after line) ≤ 32 = text_most line (Setup setup.Task) 32 e refl fit in
+    let some : 1 ≤ length (text_after line) =
+    text_some line (Setup setup.Task) 32 e refl refl fit in (
       omega (arith, some, ap (λ (t : Task). length t.name) task),
       omega
           (arith, short, ap (λ (t : Task). length t.name) task),
@@ -48,7 +51,7 @@ add_task-requires-clause-words c =
     let line = c.args.line.now in
     let e = c.requires.keyword ∙ ap Setup c.in-Task.is in
     let fit = fit_of good.0 line (passes good.0 line good.2) in
-    let task : c.in_ok-task-in-Task.task ≡ task_of line = c.in_ok-task-in-Task.ensures e fit in
+    let task : c.in_ok-task-in-Task.task ≡ task_in line = c.in_ok-task-in-Task.ensures e fit in
     subst HasWords (sym task) (task_words line e fit)
 
 pub add_setting-requires : goal.add_setting-requires
@@ -68,10 +71,10 @@ returns-in_ok-task-in-Task c =
     let e = c.requires.keyword ∙ ap Setup c.in-Task.is in
     on_ok_weaker c.add_task.result (λ now lines stands none.
     let passed = passes lines line none in
-    let task : c.in_ok-task-in-Task.task ≡ task_of line = c.in_ok-task-in-Task.ensures e
+    let task : c.in_ok-task-in-Task.task ≡ task_in line = c.in_ok-task-in-Task.ensures e
     (fit_of lines line passed) in
     let new : c.add_task.new.self ≡ record c.args.self.now
-    { tasks = c.args.self.now.tasks ++ task_of line ∷ [] } = now ∙ ap
+    { tasks = c.args.self.now.tasks ++ task_in line ∷ [] } = now ∙ ap
     (λ (t : Task). record c.args.self.now { tasks = c.args.self.now.tasks ++ t ∷ [] }) task in
     subst (λ (d : Draft). Stands d (lines ++ line ∷ [])) (sym new)
     (stands-task c.args.self.now lines line stands passed e)) c.add_task.ensures
@@ -111,7 +114,7 @@ add_line-requires-clause-short c =
     let line = c.args.line.now in
     let e = c.requires.keyword ∙ ap Setup c.in-Desc.is in
     let fit = fit_of good.0 line (passes good.0 line good.2) in
-    let text : c.in_ok-text-in-Desc.text ≡ text_of line = c.in_ok-text-in-Desc.ensures ∙
+    let text : c.in_ok-text-in-Desc.text ≡ text_after line = c.in_ok-text-in-Desc.ensures ∙
     c.text.ensures in
     subst (λ (bytes : List ℕ). length bytes ≤ 128) (sym text)
     (text_most line (Setup setup.Desc) 128 e refl fit)
@@ -121,11 +124,11 @@ returns-in_ok-text-in-Desc c =
     let line = c.args.line.now in
     let old = c.args.self.now in
     let e = c.requires.keyword ∙ ap Setup c.in-Desc.is in
-    let text : c.in_ok-text-in-Desc.text ≡ text_of line = c.in_ok-text-in-Desc.ensures ∙
+    let text : c.in_ok-text-in-Desc.text ≡ text_after line = c.in_ok-text-in-Desc.ensures ∙
     c.text.ensures in
     on_ok_weaker c.add_line.result (λ now lines stands none.
-    let new : c.add_line.new.self ≡ record old { lines = old.lines ++ text_of line ∷ [] } = now ∙ ap
-    (λ (t : List ℕ). record old { lines = old.lines ++ t ∷ [] }) text in
+    let new : c.add_line.new.self ≡ record old { lines = old.lines ++ text_after line ∷ [] } =
+    now ∙ ap (λ (t : List ℕ). record old { lines = old.lines ++ t ∷ [] }) text in
     subst (λ (d : Draft). Stands d (lines ++ line ∷ [])) (sym new)
     (stands-line old lines line stands (passes lines line none) e)) c.add_line.ensures
 
@@ -148,7 +151,7 @@ add_module-requires-clause-some c =
     let line = c.args.line.now in
     let e = c.requires.keyword ∙ ap Setup c.in-Module.is in
     let fit = fit_of good.0 line (passes good.0 line good.2) in
-    let name : c.in_ok-name-in-Module.name ≡ text_of line = c.in_ok-name-in-Module.ensures ∙
+    let name : c.in_ok-name-in-Module.name ≡ text_after line = c.in_ok-name-in-Module.ensures ∙
     c.text-in-Module.ensures in
     subst (λ (bytes : List ℕ). 1 ≤ length bytes) (sym name)
     (text_some line (Setup setup.Module) 128 e refl refl fit)
@@ -159,7 +162,7 @@ add_module-requires-clause-short c =
     let line = c.args.line.now in
     let e = c.requires.keyword ∙ ap Setup c.in-Module.is in
     let fit = fit_of good.0 line (passes good.0 line good.2) in
-    let name : c.in_ok-name-in-Module.name ≡ text_of line = c.in_ok-name-in-Module.ensures ∙
+    let name : c.in_ok-name-in-Module.name ≡ text_after line = c.in_ok-name-in-Module.ensures ∙
     c.text-in-Module.ensures in
     subst (λ (bytes : List ℕ). length bytes ≤ 128) (sym name)
     (text_most line (Setup setup.Module) 128 e refl fit)
@@ -170,7 +173,7 @@ returns-in_ok-name-in-Module c = λ lines stands none.
     let old = c.args.self.now in
     let e = c.requires.keyword ∙ ap Setup c.in-Module.is in
     let passed = passes lines line none in
-    let name : c.in_ok-name-in-Module.name ≡ text_of line = c.in_ok-name-in-Module.ensures ∙
+    let name : c.in_ok-name-in-Module.name ≡ text_after line = c.in_ok-name-in-Module.ensures ∙
     c.text-in-Module.ensures in
     let events : c.first_number.result ≡ number line 0 = c.first_number.ensures
     ∙ module_events line e (fit_of lines line passed) in

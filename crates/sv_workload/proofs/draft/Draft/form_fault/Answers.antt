@@ -2,28 +2,28 @@ use Rattle.std.proofs.Common.{[], sym, ◌∙◌}
 use Rattle.std.specs.Prelude.{drop}
 use Rattle.sv_workload.specs.declared.fault.LineFault.TheVariants.{UnknownWord, Misplaced, Shape}
 use Rattle.sv_workload.specs.declared.fault.LineFault.TheVariants.{Number, BadText}
-use Rattle.sv_workload.specs.Checks.{is_unknown, is_misplaced, is_misshapen, has_bad_number}
+use Rattle.sv_workload.specs.Checks.{lacks_keyword, is_misplaced, is_misshapen, has_bad_number}
 use Rattle.sv_workload.specs.Checks.{has_bad_text}
 use Rattle.sv_workload.specs.Checking.{form_checks}
-use Rattle.sv_workload.proofs.Faulted.{failed, passed}
+use Rattle.sv_workload.proofs.first_check.Faulted.{failed, passed}
 use Rattle.sv_workload.proofs.draft.Draft.form_fault.Goals as goal
 
-pub returns-then-is_unknown-clause-first : goal.returns-then-is_unknown-clause-first
-returns-then-is_unknown-clause-first c = λ lines s. sym (
-    failed is_unknown UnknownWord (drop 1 form_checks) lines c.args.line.now
-    (sym (c.is_unknown.ensures lines) ∙ c.if-is_unknown.true))
+pub returns-then-lacks_keyword-clause-first : goal.returns-then-lacks_keyword-clause-first
+returns-then-lacks_keyword-clause-first c = λ lines s. sym (
+    failed lacks_keyword UnknownWord (drop 1 form_checks) lines c.args.line.now
+    (sym (c.lacks_keyword.ensures lines) ∙ c.if-lacks_keyword.true))
 
 pub returns-then-is_misplaced-clause-first : goal.returns-then-is_misplaced-clause-first
 returns-then-is_misplaced-clause-first c = λ lines s. sym (
-    passed is_unknown UnknownWord (drop 1 form_checks) lines c.args.line.now
-    (sym (c.is_unknown.ensures lines) ∙ c.if-is_unknown.false)
+    passed lacks_keyword UnknownWord (drop 1 form_checks) lines c.args.line.now
+    (sym (c.lacks_keyword.ensures lines) ∙ c.if-lacks_keyword.false)
     ∙ failed is_misplaced Misplaced (drop 2 form_checks) lines c.args.line.now
     (sym (c.is_misplaced.ensures lines s) ∙ c.if-is_misplaced.true))
 
 pub returns-then-is_misshapen-clause-first : goal.returns-then-is_misshapen-clause-first
 returns-then-is_misshapen-clause-first c = λ lines s. sym (
-    passed is_unknown UnknownWord (drop 1 form_checks) lines c.args.line.now
-    (sym (c.is_unknown.ensures lines) ∙ c.if-is_unknown.false)
+    passed lacks_keyword UnknownWord (drop 1 form_checks) lines c.args.line.now
+    (sym (c.lacks_keyword.ensures lines) ∙ c.if-lacks_keyword.false)
     ∙ passed is_misplaced Misplaced (drop 2 form_checks) lines c.args.line.now
     (sym (c.is_misplaced.ensures lines s) ∙ c.if-is_misplaced.false)
     ∙ failed is_misshapen Shape (drop 3 form_checks) lines c.args.line.now
@@ -31,8 +31,8 @@ returns-then-is_misshapen-clause-first c = λ lines s. sym (
 
 pub returns-then-has_bad_number-clause-first : goal.returns-then-has_bad_number-clause-first
 returns-then-has_bad_number-clause-first c = λ lines s. sym (
-    passed is_unknown UnknownWord (drop 1 form_checks) lines c.args.line.now
-    (sym (c.is_unknown.ensures lines) ∙ c.if-is_unknown.false)
+    passed lacks_keyword UnknownWord (drop 1 form_checks) lines c.args.line.now
+    (sym (c.lacks_keyword.ensures lines) ∙ c.if-lacks_keyword.false)
     ∙ passed is_misplaced Misplaced (drop 2 form_checks) lines c.args.line.now
     (sym (c.is_misplaced.ensures lines s) ∙ c.if-is_misplaced.false)
     ∙ passed is_misshapen Shape (drop 3 form_checks) lines c.args.line.now
@@ -42,8 +42,8 @@ returns-then-has_bad_number-clause-first c = λ lines s. sym (
 
 pub returns-then-has_bad_text-clause-first : goal.returns-then-has_bad_text-clause-first
 returns-then-has_bad_text-clause-first c = λ lines s. sym (
-    passed is_unknown UnknownWord (drop 1 form_checks) lines c.args.line.now
-    (sym (c.is_unknown.ensures lines) ∙ c.if-is_unknown.false)
+    passed lacks_keyword UnknownWord (drop 1 form_checks) lines c.args.line.now
+    (sym (c.lacks_keyword.ensures lines) ∙ c.if-lacks_keyword.false)
     ∙ passed is_misplaced Misplaced (drop 2 form_checks) lines c.args.line.now
     (sym (c.is_misplaced.ensures lines s) ∙ c.if-is_misplaced.false)
     ∙ passed is_misshapen Shape (drop 3 form_checks) lines c.args.line.now
@@ -55,8 +55,8 @@ returns-then-has_bad_text-clause-first c = λ lines s. sym (
 
 pub returns-clause-first : goal.returns-clause-first
 returns-clause-first c = λ lines s. sym (
-    passed is_unknown UnknownWord (drop 1 form_checks) lines c.args.line.now
-    (sym (c.is_unknown.ensures lines) ∙ c.if-is_unknown.false)
+    passed lacks_keyword UnknownWord (drop 1 form_checks) lines c.args.line.now
+    (sym (c.lacks_keyword.ensures lines) ∙ c.if-lacks_keyword.false)
     ∙ passed is_misplaced Misplaced (drop 2 form_checks) lines c.args.line.now
     (sym (c.is_misplaced.ensures lines s) ∙ c.if-is_misplaced.false)
     ∙ passed is_misshapen Shape (drop 3 form_checks) lines c.args.line.now

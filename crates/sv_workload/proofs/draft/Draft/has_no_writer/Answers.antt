@@ -1,7 +1,7 @@
 use Rattle.std.proofs.Common.{ℕ, ap, ◌∙◌}
 use Rattle.sv_workload.specs.declared.keyword.Keyword.{Keyword}
 use Rattle.sv_workload.specs.Checking.{lacks_writer}
-use Rattle.sv_workload.proofs.Numbered.{no_writer}
+use Rattle.sv_workload.proofs.first_check.Numbered.{no_writer}
 use Rattle.sv_workload.proofs.draft.Draft.has_no_writer.Goals as goal
 
 pub returns : goal.returns

@@ -1,6 +1,6 @@
 use Rattle.std.proofs.Common.{not, ap, ◌∙◌}
 use Rattle.sv_workload.specs.Checking.{has_place}
-use Rattle.sv_workload.proofs.Standing.{misplaced}
+use Rattle.sv_workload.proofs.lines_told.Standing.{misplaced}
 use Rattle.sv_workload.proofs.draft.Draft.is_misplaced.Goals as goal
 
 pub returns : goal.returns

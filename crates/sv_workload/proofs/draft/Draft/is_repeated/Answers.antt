@@ -1,7 +1,7 @@
 use Rattle.std.proofs.Common.{ℕ, ap, ◌∙◌}
 use Rattle.sv_workload.specs.declared.keyword.Keyword.{Keyword}
 use Rattle.sv_workload.specs.Checking.{repeats}
-use Rattle.sv_workload.proofs.Numbered.{repeated}
+use Rattle.sv_workload.proofs.first_check.Numbered.{repeated}
 use Rattle.sv_workload.proofs.draft.Draft.is_repeated.Goals as goal
 
 pub returns : goal.returns

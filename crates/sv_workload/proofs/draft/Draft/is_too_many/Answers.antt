@@ -1,6 +1,6 @@
 use Rattle.std.proofs.Common.{ap, ◌∙◌}
 use Rattle.sv_workload.specs.Checking.{has_all}
-use Rattle.sv_workload.proofs.Standing.{too_many}
+use Rattle.sv_workload.proofs.lines_told.Standing.{too_many}
 use Rattle.sv_workload.proofs.draft.Draft.is_too_many.Goals as goal
 
 pub returns : goal.returns

@@ -2,7 +2,7 @@ use Rattle.std.proofs.Common.{ℕ, Bool, not, ◌&&◌, ap, ◌∙◌}
 use Rattle.sv_workload.specs.Settings.{base_told, shift_told}
 use Rattle.sv_workload.specs.Forms.{form_of}
 use Rattle.sv_workload.specs.Checks.{is_aligned}
-use Rattle.sv_workload.proofs.Numbered.{unaligned}
+use Rattle.sv_workload.proofs.first_check.Numbered.{unaligned}
 use Rattle.sv_workload.proofs.draft.Draft.is_unaligned.Goals as goal
 
 pub returns : goal.returns

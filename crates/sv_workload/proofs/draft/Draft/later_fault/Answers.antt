@@ -5,7 +5,7 @@ use Rattle.sv_workload.specs.declared.fault.LineFault.TheVariants.{NoSuchWriter,
 use Rattle.sv_workload.specs.Checks.{is_unaligned, is_repeated, is_too_many, has_no_writer}
 use Rattle.sv_workload.specs.Checks.{has_no_room}
 use Rattle.sv_workload.specs.Checking.{later_checks}
-use Rattle.sv_workload.proofs.Faulted.{failed, passed}
+use Rattle.sv_workload.proofs.first_check.Faulted.{failed, passed}
 use Rattle.sv_workload.proofs.draft.Draft.later_fault.Goals as goal
 
 pub returns-then-is_unaligned : goal.returns-then-is_unaligned

@@ -2,7 +2,7 @@ use Rattle.std.proofs.Common.{List, sym, subst, ◌∙◌}
 use Rattle.sv_workload.specs.Line.{Line}
 use Rattle.sv_workload.specs.Draft.{Stands}
 use Rattle.sv_workload.specs.Grammar.{said}
-use Rattle.sv_workload.proofs.Walking.{line_said, remark_said, fault_said}
+use Rattle.sv_workload.proofs.whole_text.Walking.{line_said, remark_said, fault_said}
 use Rattle.sv_workload.proofs.draft.Draft.take.Goals as goal
 
 pub returns-then-is_remark-clause-good : goal.returns-then-is_remark-clause-good

@@ -1,7 +1,7 @@
 use Rattle.std.proofs.Common.{◌≤◌, length, sym, ◌∙◌, arith}
 use Rattle.std.specs.Prelude.{drop}
 use Rattle.std.proofs.lemmas.List.{drop_all}
-use Rattle.sv_workload.proofs.Passing.{Leaves, ended, through}
+use Rattle.sv_workload.proofs.words_read.Passing.{Leaves, ended, through}
 use Rattle.sv_workload.proofs.numbers.Numbers.take_all.Goals as goal
 
 -- where no word is left

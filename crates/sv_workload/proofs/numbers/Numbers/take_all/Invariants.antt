@@ -1,5 +1,5 @@
 use Rattle.std.proofs.Common.{◌≡◌, ◌+◌, ◌≤◌, drop, length}
-use Rattle.sv_workload.proofs.Passing.{passed}
+use Rattle.sv_workload.proofs.words_read.Passing.{passed}
 use Rattle.sv_workload.proofs.numbers.Numbers.take_all.Given as goal
 
 -- from here the pass ends as it does from its beginning

@@ -1,5 +1,5 @@
 use Rattle.std.proofs.Common.{◌∙◌}
-use Rattle.sv_workload.proofs.Capping.{first_capped}
+use Rattle.sv_workload.proofs.fit_lines.Capping.{first_capped}
 use Rattle.sv_workload.proofs.read_line.ReadLine.first_number.Goals as goal
 
 pub returns : goal.returns

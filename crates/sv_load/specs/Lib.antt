@@ -1,0 +1,5 @@
+pub mod Limits
+pub mod Load
+pub mod Need
+pub mod Scripts
+pub mod Builder

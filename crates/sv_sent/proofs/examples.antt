@@ -1,0 +1,2 @@
+-- What streams of journals worked out by hand are read as.
+pub mod Read

@@ -1,5 +1,5 @@
 -- What a run has when its ends are taken back.
-use Rattle.std.proofs.Common.{◌≡◌, ℕ, ◌+◌, ◌^◌, ◌<◌, ◌≤◌, List, ◌++◌, Option, length, refl, sym, ap}
+use Rattle.std.proofs.Common.{◌≡◌, ℕ, ◌+◌, ◌^◌, ◌<◌, ◌≤◌, List, ◌++◌, Option, length, sym, ap}
 use Rattle.std.proofs.Common.{◌∙◌, subst, arith, length-append, All, false, Result, Ok, Err}
 use Rattle.std.specs.Prelude.{flat_map, OnOk}
 use Rattle.sv_ring.specs.Down.{IsFront}

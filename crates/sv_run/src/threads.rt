@@ -1,5 +1,6 @@
 //! The threads of a run.
 ghost use Rattle.std.specs.Prelude.{◌≡◌, ℕ, ◌<◌, IfOk, length};
+ghost use Rattle.std.specs.Thread.{IsSync};
 ghost use Rattle.sv_run.specs.Named.{IsRecorderOf};
 ghost use Rattle.sv_run.specs.Hosting.{IsSameHost};
 
@@ -106,7 +107,7 @@ fn run_threads<
         thread::scope_env(),
         rt,
         move |scope| -> Result<Host<H, W>, NoMemory>
-            requires { load.now ≡ J.load }
+            requires { (load.now ≡ J.load) × IsSync R.row × IsSync J.row × IsSync G.row }
             ensures { IfOk result (λ h. IsSameHost host.entry h) }
         {
             let mut started = 0;

@@ -1,6 +1,3 @@
-use Rattle.std.proofs.Common.{◌≡◌, ℕ, ◌+◌, List, ◌++◌, length, sym, ap, ◌∙◌, length-append}
-use Rattle.std.specs.Prelude.{OnOk}
-use Rattle.std.proofs.Common.{Ok, Err}
 use Rattle.sv_run.proofs.Ends.{fed_more}
 use Rattle.sv_run.proofs.host.analyse.Goals as goal
 

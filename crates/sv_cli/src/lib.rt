@@ -9,19 +9,17 @@
 #![tactic(auto)]
 
 mod command;
-mod commands;
-mod live;
+mod generate;
+mod make;
+mod play;
 mod reading;
-mod recording;
-mod reporting;
-mod running;
-mod scan;
-mod simulated;
+mod shown;
+mod simulation;
 mod status;
+mod threads;
 mod top;
-mod view;
 
 pub use command::Command;
-pub use commands::timeline::timeline_lines;
 pub use status::{Status, say};
+pub use sv_view::timeline_lines;
 pub use top::{offline, sysview};

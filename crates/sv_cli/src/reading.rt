@@ -1,7 +1,7 @@
 //! A file that is read whole.
 ghost use Rattle.std.specs.Prelude.{◌≡◌, ◌≢◌, Err};
-ghost use Rattle.sv_base.specs.Causes.{Blames, BlamesLast, one_more};
-ghost use Rattle.sv_cli.specs.Devices.{OfFile};
+ghost use Rattle.sv_base.specs.Causes.{Blames, one_more};
+ghost use Rattle.sv_view.specs.Files.{OfFile};
 ghost use Rattle.sv_cli.specs.Reading.{IsReadWhole};
 
 use std::alloc::Global;

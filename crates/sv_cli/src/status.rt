@@ -3,11 +3,15 @@ ghost use Rattle.std.specs.Prelude.{◌≡◌, ◌++◌, ◌≤◌, length, code
 ghost use Rattle.std.specs.Fmt.{decimal};
 ghost use Rattle.sv_cli.specs.Devices.{Says};
 ghost use Rattle.sv_cli.specs.ErrorLine.{error_line};
+ghost use Rattle.sv_cli.specs.Status.{status_for};
 
 use crate::command::usage;
 use arrayvec::ArrayString;
 use itoa::Buffer;
 use sv_base::{Sink, put_all};
+use sv_report::reason_number;
+use sv_stream::End;
+use sv_view::{Cut, MOST_BYTES};
 
 /// How a command ended.
 #[derive(Clone, Copy, Debug, PartialEq, Eq)]
@@ -57,6 +61,25 @@ impl Status {
             Status::TooLong { .. } => 9,
             Status::NoMemory => 10,
         }
+    }
+}
+
+/// How a command ends whose recording ends so, or was cut.
+pub fn status_of(ended: Result<End, Cut>) -> Status
+    ensures { result ≡ status_for ended }
+{
+    match ended {
+        Ok(End::Clean) => Status::Done,
+        Ok(End::Truncated { held }) => Status::Truncated { held },
+        Ok(End::NoSync) => Status::NoSync,
+        Ok(End::Damaged { place, reason }) => Status::Damaged {
+            place,
+            reason: reason_number(reason),
+        },
+        Err(Cut::Unread) => Status::ReadFault,
+        Err(Cut::TooLong) => Status::TooLong { limit: MOST_BYTES },
+        Err(Cut::Unwritten) => Status::WriteFault,
+        Err(Cut::NoMemory) => Status::NoMemory,
     }
 }
 

@@ -1,26 +1,23 @@
 //! What the program does, and how it ends.
-ghost use Rattle.std.specs.Prelude.{◌≡◌, ◌≢◌, ◌↔◌, ℕ, List, [], true, false, MatchOption};
-ghost use Rattle.sv_base.specs.Causes.{Blames, BlamesLast, one_more};
-ghost use Rattle.sv_cli.specs.declared.command.Command.{Command as Asked};
-ghost use Rattle.sv_cli.specs.AnswersTo.{AnswersTo};
-ghost use Rattle.sv_cli.specs.Command.{IsCommand, HasNumbers, file_of, is_unwritten, reads_file};
-ghost use Rattle.sv_cli.specs.Devices.{Says};
+ghost use Rattle.std.specs.Prelude.{◌≡◌, ◌↔◌, List, [], Option, None, Some, true, IfNone, IfSome};
+ghost use Rattle.sv_base.specs.Causes.{BlamesLast};
+ghost use Rattle.sv_ring.specs.declared.story.Story.{Story};
+ghost use Rattle.sv_core.specs.Simulated.{IsSimulated};
+ghost use Rattle.sv_view.specs.Files.{OfFile};
+ghost use Rattle.sv_cli.specs.Answers.{Answers, is_ringless, is_silent};
+ghost use Rattle.sv_cli.specs.Commands.{AskedHasNumbers, HasNumbers, asked_meaning};
+ghost use Rattle.sv_cli.specs.Commands.{command_meaning, file_of, offline_of, request_of};
+ghost use Rattle.sv_cli.specs.Devices.{HasRead, HasWritten, Says};
 ghost use Rattle.sv_cli.specs.ErrorLine.{error_line};
-ghost use Rattle.sv_cli.specs.Request.{Request, Answers, AsksForRun, IsRequest};
-ghost use Rattle.sv_cli.specs.Request.{asked_file, asks_for_file, is_silent, is_ringless};
+ghost use Rattle.sv_cli.specs.Recorded.{IsRecorded, is_unwritten, makes_of};
 
-use crate::command::Command;
-use crate::commands::check::Check;
-use crate::commands::events::Events;
-use crate::commands::generate::generate;
-use crate::commands::record::record;
-use crate::commands::report::Summary;
-use crate::commands::run::run_file;
-use crate::commands::simulate::simulate;
-use crate::commands::timeline::Runs;
-use crate::live::live_file;
-use crate::scan::scan_file;
+use crate::command::{Asked, Command};
+use crate::generate::generate;
+use crate::make::Make;
+use crate::play::play_file;
+use crate::shown::{show_file, tell_file};
 use crate::status::{Status, say};
+use crate::threads::InThreads;
 use std::alloc::Global;
 use std::sync::Wait;
 use std::thread::Threads;
@@ -28,36 +25,58 @@ use sv_base::{Gate, Sink, Source};
 use sv_journal::Journal;
 use sv_ring::Dock;
 
-/// Does the command, and says how it ended.
+/// Simulates the workload of the name, and writes what is made of it.
+fn simulate_file<S: Source, K: Sink>(
+    alloc: Global,
+    make: Make,
+    name: &str,
+    src: &mut S,
+    out: &mut K,
+    journal: &mut Journal,
+) -> Status
+    requires { journal.old.items ≡ [] }
+    ensures answered { OfFile (S.held src.old name.now) (S.left src.new) (λ file taken.
+        IsRecorded IsSimulated (makes_of make) file taken
+        (K.written out.old) (K.written out.new) journal.new.items result) }
+    ensures source { HasRead (Some name.now) (src.new ≡ src.old) (S.sure src.old)
+        (S.begins src.old) (S.begins src.new) (S.faults src.old) (S.faults src.new) result }
+    ensures sink { HasWritten (is_unwritten result) (out.new ≡ out.old)
+        (K.broken out.new) (K.faults out.old) (K.faults out.new) result }
+{
+    let mut nowhere = ();
+    play_file(alloc, name, &make, src, &mut nowhere, out, journal)
+}
+
+/// Does the command, if there is one, and says how it ended.
 fn answer<S: Source, K: Sink>(
     alloc: Global,
-    command: Command<'_>,
+    command: Option<Command<'_>>,
     src: &mut S,
     out: &mut K,
     journal: &mut Journal,
 ) -> Status
     requires empty { journal.old.items ≡ [] }
-    requires numbers { HasNumbers command }
-    ensures answered { AnswersTo (S.held src.old) (S.left src.new) command.entry
-        (K.written out.old) (K.written out.new) journal.new.items result }
-    ensures unwritten { is_unwritten command.entry result ≡ true → out.new ≡ out.old }
-    ensures begins { reads_file command.entry ≡ true →
-        S.begins src.new ≡ one_more (S.begins src.old) }
-    ensures unread { reads_file command.entry ≡ false → src.new ≡ src.old }
-    ensures sure { S.sure src.old (file_of command.entry) → result ≢ Status.ReadFault }
-    ensures read { Blames (result ≡ Status.ReadFault) (S.faults src.old) (S.faults src.new) }
-    ensures write { BlamesLast (result ≡ Status.WriteFault)
-        (K.broken out.new) (K.faults out.old) (K.faults out.new) }
+    requires numbers { IfSome command HasNumbers }
+    ensures usage { IfNone (command_meaning command.entry)
+        ((result ≡ Status.Usage) × (journal.new ≡ journal.old)) }
+    ensures answered { (before now : Option (List Story)) →
+        IfSome (command_meaning command.entry) (λ request.
+        Answers (S.held src.old) (S.left src.new) request
+        (K.written out.old) (K.written out.new) before now journal.new.items result) }
+    ensures source { HasRead (file_of (command_meaning command.entry)) (src.new ≡ src.old)
+        (S.sure src.old) (S.begins src.old) (S.begins src.new)
+        (S.faults src.old) (S.faults src.new) result }
+    ensures sink { HasWritten (is_silent (command_meaning command.entry) result)
+        (out.new ≡ out.old) (K.broken out.new) (K.faults out.old) (K.faults out.new) result }
 {
     match command {
-        Command::Events(name) => scan_file(alloc, Events, name, src, out),
-        Command::Check(name) => scan_file(alloc, Check::new(), name, src, out),
-        Command::Timeline(name) => scan_file(alloc, Runs::new(alloc), name, src, out),
-        Command::Report(name) => scan_file(alloc, Summary::new(alloc), name, src, out),
-        Command::Live { size, file } => live_file(alloc, size, file, src, out),
-        Command::Simulate(name) => simulate(alloc, name, src, out, journal),
-        Command::Record(name) => record(alloc, name, src, out, journal),
-        Command::Generate(number) => generate(alloc, number, out, journal),
+        Some(Command::Show { show, file }) => show_file(alloc, show, file, src, out),
+        Some(Command::Live { size, file }) => tell_file(alloc, size, file, src, out),
+        Some(Command::Play { make, file }) => {
+            simulate_file(alloc, make, file, src, out, journal)
+        }
+        Some(Command::Generate(number)) => generate(alloc, number, out, journal),
+        None => Status::Usage,
     }
 }
 
@@ -89,51 +108,63 @@ pub fn offline<S: Source, K: Sink>(
     requires { journal.old.items ≡ [] }
 
     // The words alone are to blame.
-    ensures usage { (result ≡ Status.Usage) ↔ ((c : Asked) → IsCommand words.now c → ⊥) }
+    ensures usage { (result ≡ Status.Usage) ↔ (offline_of words.now ≡ None) }
     ensures untouched { result ≡ Status.Usage →
         (src.new ≡ src.old) × (out.new ≡ out.old) × (journal.new ≡ journal.old) }
 
     // The bytes of the file fix the answer, as far as they were taken, or the number does.
-    ensures answered { (c : Asked) → IsCommand words.now c →
-        AnswersTo (S.held src.old) (S.left src.new) c
-        (K.written out.old) (K.written out.new) journal.new.items result }
-    ensures unwritten { (c : Asked) → IsCommand words.now c →
-        is_unwritten c result ≡ true → out.new ≡ out.old }
+    ensures answered { IfSome (offline_of words.now) (λ request.
+        Answers (S.held src.old) (S.left src.new) request
+        (K.written out.old) (K.written out.new) None None journal.new.items result) }
 
-    // A file is begun once, and is read where it can be; with no file the source stays as it was.
-    ensures begins { (c : Asked) → IsCommand words.now c → reads_file c ≡ true →
-        S.begins src.new ≡ one_more (S.begins src.old) }
-    ensures unread { (c : Asked) → IsCommand words.now c → reads_file c ≡ false →
-        src.new ≡ src.old }
-    ensures sure { (c : Asked) → IsCommand words.now c →
-        S.sure src.old (file_of c) → result ≢ Status.ReadFault }
-
-    // A device is to blame only where it failed, and a failed write is the last.
-    ensures read { Blames (result ≡ Status.ReadFault) (S.faults src.old) (S.faults src.new) }
-    ensures write { BlamesLast (result ≡ Status.WriteFault)
-        (K.broken out.new) (K.faults out.old) (K.faults out.new) }
+    // What it does to its devices.
+    ensures source { HasRead (file_of (offline_of words.now)) (src.new ≡ src.old)
+        (S.sure src.old) (S.begins src.old) (S.begins src.new)
+        (S.faults src.old) (S.faults src.new) result }
+    ensures sink { HasWritten (is_silent (offline_of words.now) result)
+        (out.new ≡ out.old) (K.broken out.new) (K.faults out.old) (K.faults out.new) result }
 
     // The error sink has the status's line, or has failed within it.
     ensures said { Says (error_line result)
         (K.written err.old) (K.written err.new) (K.faults err.old) (K.faults err.new) }
 {
-    let status = match Command::parse(words) {
-        Some(command) => answer(alloc, command, src, out, journal),
-        None => Status::Usage,
-    };
+    let status = answer(alloc, Command::parse(words), src, out, journal);
     say(err, &status);
     status
 }
 
-/// The name of the workload that the words ask to run, if they do.
-fn run_asked<'a>(words: &[&'a str]) -> Option<&'a str>
-    ensures { MatchOption result
-        ((name : List ℕ) → AsksForRun words.now name → ⊥)
-        (λ name. AsksForRun words.now name.now) }
+/// Does the command or the run, if there is one, and says how it ended.
+fn respond<R: Threads + Wait + Sync, S: Source, K: Sink, D: Dock, G: Gate>(
+    rt: &R,
+    alloc: Global,
+    asked: Option<Asked<'_>>,
+    src: &mut S,
+    out: &mut K,
+    dock: &mut D,
+    gate: &G,
+    journal: &mut Journal,
+) -> Status
+    requires empty { journal.old.items ≡ [] }
+    requires numbers { IfSome asked AskedHasNumbers }
+    ensures usage { IfNone (asked_meaning asked.entry)
+        ((result ≡ Status.Usage) × (journal.new ≡ journal.old)) }
+    ensures answered { IfSome (asked_meaning asked.entry) (λ request.
+        Answers (S.held src.old) (S.left src.new) request (K.written out.old) (K.written out.new)
+        (D.stories dock.old) (D.stories dock.new) journal.new.items result) }
+    ensures source { HasRead (file_of (asked_meaning asked.entry)) (src.new ≡ src.old)
+        (S.sure src.old) (S.begins src.old) (S.begins src.new)
+        (S.faults src.old) (S.faults src.new) result }
+    ensures sink { HasWritten (is_silent (asked_meaning asked.entry) result)
+        (out.new ≡ out.old) (K.broken out.new) (K.faults out.old) (K.faults out.new) result }
+    ensures ringless { is_ringless (asked_meaning asked.entry) result ≡ true →
+        dock.new ≡ dock.old }
 {
-    match words {
-        ["run", file] => Some(file),
-        _ => None,
+    match asked {
+        Some(Asked::Offline(command)) => answer(alloc, Some(command), src, out, journal),
+        Some(Asked::Run(file)) => {
+            play_file(alloc, file, &InThreads { rt, gate }, src, dock, out, journal)
+        }
+        None => Status::Usage,
     }
 }
 
@@ -162,41 +193,29 @@ pub fn sysview<R: Threads + Wait + Sync, S: Source, K: Sink, D: Dock, G: Gate>(
     requires { journal.old.items ≡ [] }
 
     // The words alone are to blame.
-    ensures usage { (result ≡ Status.Usage) ↔ ((r : Request) → IsRequest words.now r → ⊥) }
+    ensures usage { (result ≡ Status.Usage) ↔ (request_of words.now ≡ None) }
     ensures untouched { result ≡ Status.Usage → (src.new ≡ src.old) × (out.new ≡ out.old)
         × (dock.new ≡ dock.old) × (journal.new ≡ journal.old) }
 
     // The bytes of the file fix the answer of a command, as far as they were taken, or its number
     // does; a run answers with its journal, the report of that, and its story.
-    ensures answered { (r : Request) → IsRequest words.now r →
-        Answers (S.held src.old) (S.left src.new) r (K.written out.old) (K.written out.new)
-        (D.stories dock.old) (D.stories dock.new) journal.new.items result }
-    ensures unwritten { (r : Request) → IsRequest words.now r →
-        is_silent r result ≡ true → out.new ≡ out.old }
-    ensures ringless { (r : Request) → IsRequest words.now r →
-        is_ringless r result ≡ true → dock.new ≡ dock.old }
+    ensures answered { IfSome (request_of words.now) (λ request.
+        Answers (S.held src.old) (S.left src.new) request (K.written out.old) (K.written out.new)
+        (D.stories dock.old) (D.stories dock.new) journal.new.items result) }
 
-    // A file is begun once, and is read where it can be; with no file the source stays as it was.
-    ensures begins { (r : Request) → IsRequest words.now r → asks_for_file r ≡ true →
-        S.begins src.new ≡ one_more (S.begins src.old) }
-    ensures unread { (r : Request) → IsRequest words.now r → asks_for_file r ≡ false →
-        src.new ≡ src.old }
-    ensures sure { (r : Request) → IsRequest words.now r →
-        S.sure src.old (asked_file r) → result ≢ Status.ReadFault }
-
-    // A device is to blame only where it failed, and a failed write is the last.
-    ensures read { Blames (result ≡ Status.ReadFault) (S.faults src.old) (S.faults src.new) }
-    ensures write { BlamesLast (result ≡ Status.WriteFault)
-        (K.broken out.new) (K.faults out.old) (K.faults out.new) }
+    // What it does to its devices.
+    ensures source { HasRead (file_of (request_of words.now)) (src.new ≡ src.old)
+        (S.sure src.old) (S.begins src.old) (S.begins src.new)
+        (S.faults src.old) (S.faults src.new) result }
+    ensures sink { HasWritten (is_silent (request_of words.now) result)
+        (out.new ≡ out.old) (K.broken out.new) (K.faults out.old) (K.faults out.new) result }
+    ensures ringless { is_ringless (request_of words.now) result ≡ true → dock.new ≡ dock.old }
 
     // The error sink has the status's line, or has failed within it.
     ensures said { Says (error_line result)
         (K.written err.old) (K.written err.new) (K.faults err.old) (K.faults err.new) }
 {
-    let Some(name) = run_asked(words) else {
-        return offline(alloc, words, src, out, err, journal);
-    };
-    let status = run_file(rt, alloc, name, src, out, dock, gate, journal);
+    let status = respond(rt, alloc, Asked::parse(words), src, out, dock, gate, journal);
     say(err, &status);
     status
 }

@@ -1,0 +1,23 @@
+//! What is made of a recording as it is read: a view shows it event by event, and one loop reads its
+//! file in pieces, gives each event to the view, and writes what the view makes of it.
+//!
+//! The contract above this crate: [`scan_file`] writes exactly what the text of a [`View`] says of
+//! the bytes that were taken, and [`live_file`] the report of each prefix of them, as far as
+//! devices and memory let them, and both say how the recording ends or why it was cut.
+#![tactic(auto)]
+
+mod cut;
+mod live;
+mod scan;
+mod showing;
+mod view;
+mod views;
+
+pub use cut::Cut;
+pub use live::live_file;
+pub use scan::{MOST_BYTES, scan_file};
+pub use view::View;
+pub use views::check::Check;
+pub use views::events::Events;
+pub use views::report::Summary;
+pub use views::timeline::{Runs, timeline_lines};

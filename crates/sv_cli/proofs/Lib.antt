@@ -1,15 +1,7 @@
 pub mod Parts
-pub mod Lines
-pub mod Drained
-pub mod Outcomes
-pub mod Begun
-pub mod Pieces
-pub mod Ended
 pub mod Files
-pub mod SameWords
-pub mod Requests
-pub mod Timelines
 pub mod Reported
-pub mod Lives
+pub mod Played
+pub mod Requests
 pub mod Sizes
 pub mod Started

@@ -1,9 +1,9 @@
 -- Parts of a text that are written.
-use Rattle.std.proofs.Common.{◌≡◌, ℕ, ◌+◌, ◌≤◌, List, [], ◌∷◌, ◌++◌, refl, length, take, drop}
-use Rattle.std.proofs.Common.{Option, Some, None, Result, Ok, Err, sym, ap, ◌∙◌, subst, arith}
+use Rattle.std.proofs.Common.{◌≡◌, ℕ, ◌+◌, ◌≤◌, List, ◌++◌, length, take, drop}
+use Rattle.std.proofs.Common.{Option, Result, Ok, Err, sym, ap, ◌∙◌, subst, arith}
 use Rattle.std.specs.Prelude.{OnOk, OnErr}
 use Rattle.std.specs.Io.KnownBytes.{Appends}
-use Rattle.std.proofs.lemmas.List.{append-nil, length-take, take-append-drop, take-append-le}
+use Rattle.std.proofs.lemmas.List.{length-take, take-append-drop, take-append-le}
 use Rattle.std.proofs.Math.Seq.{take-append_seam, take-append-add}
 use Rattle.sv_base.specs.Streams.{AppendsPart}
 use Rattle.sv_base.proofs.Shared.{Appends-then}
@@ -27,16 +27,6 @@ part_after old now later a b written (count, part) = (
       (Appends-then old now later a (take count b) written part),
 )
 
--- a front of some text is a part of it
-pub part_front : (old now : Option (List ℕ)) (a b : List ℕ) → Appends old now a
-    → AppendsPart old now (a ++ b)
-part_front old now a b written =
-    (length a, subst (Appends old now) (sym (take-append_seam a b)) written)
-
-pub nothing : (old : Option (List ℕ)) → Appends old old []
-nothing None = tt
-nothing (Some bytes) = sym (append-nil bytes)
-
 -- a part of some text is a part of that text and more
 pub part_more : (old now : Option (List ℕ)) (a b : List ℕ) → AppendsPart old now a
     → AppendsPart old now (a ++ b)
@@ -46,12 +36,3 @@ part_more old now a b (count, part) =
     let same : take n a ≡ take count a = ap (take n) (sym (take-append-drop count a)) ∙
     take-append_seam (take count a) (drop count a) in
     (n, subst (Appends old now) (sym (take-append-le n a b short ∙ same)) part)
-
-take_whole : (xs : List ℕ) → take (length xs) xs ≡ xs
-take_whole [] = refl
-take_whole (x ∷ xs) = ap (λ (k : List ℕ). x ∷ k) (take_whole xs)
-
--- all of a text is a part of it
-pub whole_part : (old now : Option (List ℕ)) (a : List ℕ) → Appends old now a
-    → AppendsPart old now a
-whole_part old now a written = (length a, subst (Appends old now) (sym (take_whole a)) written)

@@ -1,6 +1,6 @@
 -- The workload of a number starts its recorder: the first call of its one writer does.
 use Rattle.std.proofs.Common.{◌≡◌, ℕ, zero, suc, ◌+◌, ◌<◌, Bool, true, false, ◌||◌, List, [], ◌∷◌}
-use Rattle.std.proofs.Common.{refl, sym, ◌∙◌, subst, arith, reverse, length}
+use Rattle.std.proofs.Common.{refl, sym, ◌∙◌, subst, arith, reverse}
 use Rattle.std.specs.Prelude.{cond, count_by}
 use Rattle.std.specs.List.{list_any}
 use Rattle.std.proofs.Math.Dec.{eqb-suc-zero}

@@ -1,33 +1,24 @@
--- What a call does to its devices.
-use Rattle.std.specs.Prelude.{◌≡◌, ℕ, ◌⊎◌, List, [], ◌++◌, Option, Some, None, IfSome}
+-- What a command does to its devices.
+use Rattle.std.specs.Prelude.{◌≡◌, ℕ, ◌⊎◌, Bool, true, List, Option, OnSome, IfSome, IfNone}
 use Rattle.std.specs.Io.KnownBytes.{Appends}
-use Rattle.sv_base.specs.Causes.{Blames, one_more}
+use Rattle.sv_base.specs.Causes.{Blames, BlamesLast, one_more}
 use Rattle.sv_base.specs.Streams.{AppendsPart}
 
--- a source from which a call reads: it begins no file, is to blame where the call failed, and a
--- safe file does not fail
-pub record IsReadFrom (failed : Type 0) (begins_old begins_new : ℕ) (safe_old safe_new : Type 0)
-    (faults_old faults_new : ℕ) : Type 0 where
-  pub begins : begins_new ≡ begins_old
-  pub safe : safe_old → (failed → ⊥) × safe_new
+-- a source: the file is begun once, and is read where it can be; with no file the source stays the
+-- same; it is to blame only where it failed
+pub record HasRead (file : Option (List ℕ)) (same : Type 0) (sure : List ℕ → Type 0)
+    (begins_old begins_new faults_old faults_new : ℕ) (failed : Type 0) : Type 0 where
+  pub begins : OnSome file (begins_new ≡ one_more begins_old)
+  pub unread : IfNone file same
+  pub safe : IfSome file (λ name. sure name → failed → ⊥)
   pub blames : Blames failed faults_old faults_new
 
--- these bytes of a file were taken, where the file is known; none where it could not be begun
-abbrev pub HasTaken : Option (List ℕ) → Option (List ℕ) → List ℕ → Type 0
-HasTaken None left taken = Unit {0}
-HasTaken (Some file) None taken = taken ≡ []
-HasTaken (Some file) (Some rest) taken = file ≡ taken ++ rest
-
--- there are bytes, those of the file where its source tells them, of which a front was taken, as
--- the source tells: a fact holds of both
-pub record OfFile (held left : Option (List ℕ)) (fact : List ℕ → List ℕ → Type 0) : Type 0 where
-  pub file : List ℕ
-  pub taken : List ℕ
-  pub rest : List ℕ
-  pub known : IfSome held (λ bytes. bytes ≡ file)
-  pub front : file ≡ taken ++ rest
-  pub read : HasTaken held left taken
-  pub so : fact file taken
+-- a sink: it stays the same where nothing is written; it is to blame only where it failed, and a
+-- failed write is the last
+pub record HasWritten (silent : Bool) (same : Type 0) (broken : Bool)
+    (faults_old faults_new : ℕ) (failed : Type 0) : Type 0 where
+  pub unwritten : silent ≡ true → same
+  pub blames : BlamesLast failed broken faults_old faults_new
 
 -- a sink has gained the line, or failed within it
 abbrev pub Says : List ℕ → Option (List ℕ) → Option (List ℕ) → ℕ → ℕ → Type 0

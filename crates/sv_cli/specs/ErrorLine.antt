@@ -1,16 +1,17 @@
 -- The lines on the error sink.
-use Rattle.std.specs.Prelude.{ℕ, List, [], ◌++◌, codes}
+use Rattle.std.specs.Prelude.{ℕ, List, [], ◌++◌, codes, flat_map}
 use Rattle.std.specs.Fmt.{decimal}
 use Rattle.sv_cli.specs.declared.status.Status.{Status}
+use Rattle.sv_cli.specs.Commands.{shows}
 use Rattle.sv_cli.specs.declared.status.Status.TheVariants.{Done, Usage, ReadFault, WriteFault}
 use Rattle.sv_cli.specs.declared.status.Status.TheVariants.{Damaged, Truncated, NoSync, Workload}
 use Rattle.sv_cli.specs.declared.status.Status.TheVariants.{TooLong, NoMemory}
 
--- the forms of all commands
+-- the forms of all commands, the views first
 abbrev pub usage_line : List ℕ
 usage_line =
-    codes "usage: sysview events F | check F | timeline F | report F | live N F | simulate W | "
-    ++ codes "record W | run W | generate N\n"
+    codes "usage: sysview " ++ (flat_map (λ row. row.0 ++ codes " F | ") shows
+    ++ codes "live N F | simulate W | record W | run W | generate N\n")
 
 -- one line for each status but Done
 abbrev pub error_line : Status → List ℕ

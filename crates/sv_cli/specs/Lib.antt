@@ -1,13 +1,7 @@
-pub mod Command
+pub mod Commands
 pub mod Status
 pub mod ErrorLine
 pub mod Devices
-pub mod Text
-pub mod commands
-pub mod Answer
 pub mod Recorded
-pub mod AnswersTo
-pub mod Request
-pub mod Scan
-pub mod Live
+pub mod Answers
 pub mod Reading

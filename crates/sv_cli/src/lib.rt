@@ -8,20 +8,17 @@
 //! and whole whatever the threads did. [`offline`] has the commands that never wait.
 #![tactic(auto)]
 
-mod command;
-mod commands;
-mod live;
+mod generate;
+mod make;
+mod number;
+mod play;
 mod reading;
-mod recording;
-mod reporting;
-mod running;
-mod scan;
-mod simulated;
+mod run;
+mod shown;
+mod simulate;
 mod status;
 mod top;
-mod view;
 
-pub use command::Command;
-pub use commands::timeline::timeline_lines;
 pub use status::{Status, say};
+pub use sv_view::timeline_lines;
 pub use top::{offline, sysview};

@@ -1,7 +1,7 @@
 //! A file that is read whole.
-ghost use Rattle.std.specs.Prelude.{◌≡◌, ◌≢◌, Err};
-ghost use Rattle.sv_base.specs.Causes.{Blames, BlamesLast, one_more};
-ghost use Rattle.sv_cli.specs.Devices.{OfFile};
+ghost use Rattle.std.specs.Prelude.{◌≡◌, Err, Some};
+ghost use Rattle.sv_view.specs.Files.{OfFile};
+ghost use Rattle.sv_cli.specs.Devices.{HasRead};
 ghost use Rattle.sv_cli.specs.Reading.{IsReadWhole};
 
 use std::alloc::Global;
@@ -16,9 +16,9 @@ pub fn read_file<S: Source>(
 ) -> Result<Vec<u8>, ReadAll>
     ensures read { OfFile (S.held src.old name.now) (S.left src.new) (λ file taken.
         IsReadWhole limit file taken result) }
-    ensures begins { S.begins src.new ≡ one_more (S.begins src.old) }
-    ensures sure { S.sure src.old name.now → result ≢ Err ReadAll.Failed }
-    ensures blames { Blames (result ≡ Err ReadAll.Failed) (S.faults src.old) (S.faults src.new) }
+    ensures source { HasRead (Some name.now) (src.new ≡ src.old) (S.sure src.old)
+        (S.begins src.old) (S.begins src.new) (S.faults src.old) (S.faults src.new)
+        (result ≡ Err ReadAll.Failed) }
 {
     let Ok(()) = src.begin(name) else {
         return Err(ReadAll::Failed);

@@ -2,12 +2,15 @@
 ghost use Rattle.std.specs.Prelude.{◌≡◌, ◌++◌, ◌≤◌, length, codes};
 ghost use Rattle.std.specs.Fmt.{decimal};
 ghost use Rattle.sv_cli.specs.Devices.{Says};
-ghost use Rattle.sv_cli.specs.ErrorLine.{error_line};
+ghost use Rattle.sv_cli.specs.ErrorLine.{error_line, usage_line};
+ghost use Rattle.sv_cli.specs.Status.{status_for};
 
-use crate::command::usage;
 use arrayvec::ArrayString;
 use itoa::Buffer;
 use sv_base::{Sink, put_all};
+use sv_report::reason_number;
+use sv_stream::End;
+use sv_view::{Cut, MOST_BYTES};
 
 /// How a command ended.
 #[derive(Clone, Copy, Debug, PartialEq, Eq)]
@@ -60,6 +63,25 @@ impl Status {
     }
 }
 
+/// How a command ends whose recording ends so, or was cut.
+pub fn status_of(ended: Result<End, Cut>) -> Status
+    ensures { result ≡ status_for ended }
+{
+    match ended {
+        Ok(End::Clean) => Status::Done,
+        Ok(End::Truncated { held }) => Status::Truncated { held },
+        Ok(End::NoSync) => Status::NoSync,
+        Ok(End::Damaged { place, reason }) => Status::Damaged {
+            place,
+            reason: reason_number(reason),
+        },
+        Err(Cut::Unread) => Status::ReadFault,
+        Err(Cut::TooLong) => Status::TooLong { limit: MOST_BYTES },
+        Err(Cut::Unwritten) => Status::WriteFault,
+        Err(Cut::NoMemory) => Status::NoMemory,
+    }
+}
+
 /// Room for the longest line: it is made where memory may be wanting, so it takes none.
 type Line = ArrayString<256>;
 
@@ -93,6 +115,14 @@ fn reasoned(text: &str, number: u64, reason: u8) -> Line
     line.push_str(Buffer::new().format(reason));
     line.push_str("\n");
     line
+}
+
+/// The line that tells the forms of all commands.
+fn usage() -> &'static str
+    ensures { result.now ≡ usage_line }
+{
+    "usage: sysview events F | check F | timeline F | report F | \
+     live N F | simulate W | record W | run W | generate N\n"
 }
 
 /// The line of a status; none for Done.

@@ -1,25 +1,19 @@
 //! What the program does, and how it ends.
-ghost use Rattle.std.specs.Prelude.{◌≡◌, ◌≢◌, ◌↔◌, ℕ, List, [], true, false, MatchOption};
-ghost use Rattle.sv_base.specs.Causes.{Blames, BlamesLast, one_more};
-ghost use Rattle.sv_cli.specs.declared.command.Command.{Command as Asked};
-ghost use Rattle.sv_cli.specs.AnswersTo.{AnswersTo};
-ghost use Rattle.sv_cli.specs.Command.{IsCommand, HasNumbers, file_of, is_unwritten, reads_file};
-ghost use Rattle.sv_cli.specs.Devices.{Says};
+ghost use Rattle.std.specs.Prelude.{◌≡◌, ◌↔◌, List, [], Option, None, Some, true, IfNone};
+ghost use Rattle.std.specs.Prelude.{IfSome, MatchOption};
+ghost use Rattle.sv_ring.specs.declared.story.Story.{Story};
+ghost use Rattle.sv_cli.specs.Answers.{Answers, is_ringless, is_silent};
+ghost use Rattle.sv_cli.specs.Commands.{by_two, by_three, file_of, offline_of, request_of};
+ghost use Rattle.sv_cli.specs.Commands.{run};
+ghost use Rattle.sv_cli.specs.Devices.{HasRead, HasWritten, Says};
 ghost use Rattle.sv_cli.specs.ErrorLine.{error_line};
-ghost use Rattle.sv_cli.specs.Request.{Request, Answers, AsksForRun, IsRequest};
-ghost use Rattle.sv_cli.specs.Request.{asked_file, asks_for_file, is_silent, is_ringless};
 
-use crate::command::Command;
-use crate::commands::check::Check;
-use crate::commands::events::Events;
-use crate::commands::generate::generate;
-use crate::commands::record::record;
-use crate::commands::report::Summary;
-use crate::commands::run::run_file;
-use crate::commands::simulate::simulate;
-use crate::commands::timeline::Runs;
-use crate::live::live_file;
-use crate::scan::scan_file;
+use crate::generate::generate;
+use crate::make::Make;
+use crate::number::number_of;
+use crate::run::run_file;
+use crate::shown::{show_file, tell_file};
+use crate::simulate::simulate_file;
 use crate::status::{Status, say};
 use std::alloc::Global;
 use std::sync::Wait;
@@ -28,36 +22,93 @@ use sv_base::{Gate, Sink, Source};
 use sv_journal::Journal;
 use sv_ring::Dock;
 
-/// Does the command, and says how it ended.
-fn answer<S: Source, K: Sink>(
+/// Does the command of two words, if there is one, and says how it ended.
+fn answer_two<S: Source, K: Sink>(
     alloc: Global,
-    command: Command<'_>,
+    name: &str,
+    word: &str,
     src: &mut S,
     out: &mut K,
     journal: &mut Journal,
 ) -> Status
-    requires empty { journal.old.items ≡ [] }
-    requires numbers { HasNumbers command }
-    ensures answered { AnswersTo (S.held src.old) (S.left src.new) command.entry
-        (K.written out.old) (K.written out.new) journal.new.items result }
-    ensures unwritten { is_unwritten command.entry result ≡ true → out.new ≡ out.old }
-    ensures begins { reads_file command.entry ≡ true →
-        S.begins src.new ≡ one_more (S.begins src.old) }
-    ensures unread { reads_file command.entry ≡ false → src.new ≡ src.old }
-    ensures sure { S.sure src.old (file_of command.entry) → result ≢ Status.ReadFault }
-    ensures read { Blames (result ≡ Status.ReadFault) (S.faults src.old) (S.faults src.new) }
-    ensures write { BlamesLast (result ≡ Status.WriteFault)
-        (K.broken out.new) (K.faults out.old) (K.faults out.new) }
+    requires { journal.old.items ≡ [] }
+    ensures usage { IfNone (by_two name.now word.now)
+        ((result ≡ Status.Usage) × (journal.new ≡ journal.old)) }
+    ensures answered { (before now : Option (List Story)) → IfSome (by_two name.now word.now) (λ request.
+        Answers (S.held src.old) (S.left src.new) request
+        (K.written out.old) (K.written out.new) before now journal.new.items result) }
+    ensures source { HasRead (file_of (by_two name.now word.now)) (src.new ≡ src.old)
+        (S.sure src.old) (S.begins src.old) (S.begins src.new)
+        (S.faults src.old) (S.faults src.new) (result ≡ Status.ReadFault) }
+    ensures sink { HasWritten (is_silent (by_two name.now word.now) result) (out.new ≡ out.old)
+        (K.broken out.new) (K.faults out.old) (K.faults out.new) (result ≡ Status.WriteFault) }
 {
-    match command {
-        Command::Events(name) => scan_file(alloc, Events, name, src, out),
-        Command::Check(name) => scan_file(alloc, Check::new(), name, src, out),
-        Command::Timeline(name) => scan_file(alloc, Runs::new(alloc), name, src, out),
-        Command::Report(name) => scan_file(alloc, Summary::new(alloc), name, src, out),
-        Command::Live { size, file } => live_file(alloc, size, file, src, out),
-        Command::Simulate(name) => simulate(alloc, name, src, out, journal),
-        Command::Record(name) => record(alloc, name, src, out, journal),
-        Command::Generate(number) => generate(alloc, number, out, journal),
+    match name {
+        "generate" => match number_of(word, 1000000) {
+            Some(number) => generate(alloc, number, out, journal),
+            None => Status::Usage,
+        },
+        "simulate" => simulate_file(alloc, Make::Report, word, src, out, journal),
+        "record" => simulate_file(alloc, Make::Recording, word, src, out, journal),
+        _ => show_file(alloc, name, word, src, out),
+    }
+}
+
+/// Does the command of three words, if there is one, and says how it ended.
+fn answer_three<S: Source, K: Sink>(
+    alloc: Global,
+    name: &str,
+    size: &str,
+    file: &str,
+    src: &mut S,
+    out: &mut K,
+    journal: &mut Journal,
+) -> Status
+    requires { journal.old.items ≡ [] }
+    ensures usage { IfNone (by_three name.now size.now file.now)
+        ((result ≡ Status.Usage) × (journal.new ≡ journal.old)) }
+    ensures answered { (before now : Option (List Story)) → IfSome (by_three name.now size.now file.now) (λ request.
+        Answers (S.held src.old) (S.left src.new) request
+        (K.written out.old) (K.written out.new) before now journal.new.items result) }
+    ensures source { HasRead (file_of (by_three name.now size.now file.now)) (src.new ≡ src.old)
+        (S.sure src.old) (S.begins src.old) (S.begins src.new)
+        (S.faults src.old) (S.faults src.new) (result ≡ Status.ReadFault) }
+    ensures sink { HasWritten (is_silent (by_three name.now size.now file.now) result) (out.new ≡ out.old)
+        (K.broken out.new) (K.faults out.old) (K.faults out.new) (result ≡ Status.WriteFault) }
+{
+    if name != "live" {
+        return Status::Usage;
+    }
+    match number_of(size, 65536) {
+        Some(size) => tell_file(alloc, size, file, src, out),
+        None => Status::Usage,
+    }
+}
+
+/// Does the command of the words, if there is one, and says how it ended.
+fn answer<S: Source, K: Sink>(
+    alloc: Global,
+    words: &[&str],
+    src: &mut S,
+    out: &mut K,
+    journal: &mut Journal,
+) -> Status
+    requires { journal.old.items ≡ [] }
+    ensures usage { IfNone (offline_of words.now)
+        ((result ≡ Status.Usage) × (journal.new ≡ journal.old)) }
+    ensures answered { (before now : Option (List Story)) → IfSome (offline_of words.now) (λ request.
+        Answers (S.held src.old) (S.left src.new) request
+        (K.written out.old) (K.written out.new) before now journal.new.items result) }
+    ensures source { HasRead (file_of (offline_of words.now)) (src.new ≡ src.old)
+        (S.sure src.old) (S.begins src.old) (S.begins src.new)
+        (S.faults src.old) (S.faults src.new) (result ≡ Status.ReadFault) }
+    ensures sink { HasWritten (is_silent (offline_of words.now) result) (out.new ≡ out.old)
+        (K.broken out.new) (K.faults out.old) (K.faults out.new) (result ≡ Status.WriteFault) }
+{
+    match words {
+        [name, word] => answer_two(alloc, name, word, src, out, journal),
+        [name, size, file] => answer_three(alloc, name, size, file, src, out, journal),
+        _ => Status::Usage,
     }
 }
 
@@ -89,38 +140,27 @@ pub fn offline<S: Source, K: Sink>(
     requires { journal.old.items ≡ [] }
 
     // The words alone are to blame.
-    ensures usage { (result ≡ Status.Usage) ↔ ((c : Asked) → IsCommand words.now c → ⊥) }
+    ensures usage { (result ≡ Status.Usage) ↔ (offline_of words.now ≡ None) }
     ensures untouched { result ≡ Status.Usage →
         (src.new ≡ src.old) × (out.new ≡ out.old) × (journal.new ≡ journal.old) }
 
     // The bytes of the file fix the answer, as far as they were taken, or the number does.
-    ensures answered { (c : Asked) → IsCommand words.now c →
-        AnswersTo (S.held src.old) (S.left src.new) c
-        (K.written out.old) (K.written out.new) journal.new.items result }
-    ensures unwritten { (c : Asked) → IsCommand words.now c →
-        is_unwritten c result ≡ true → out.new ≡ out.old }
+    ensures answered { IfSome (offline_of words.now) (λ request.
+        Answers (S.held src.old) (S.left src.new) request
+        (K.written out.old) (K.written out.new) None None journal.new.items result) }
 
-    // A file is begun once, and is read where it can be; with no file the source stays as it was.
-    ensures begins { (c : Asked) → IsCommand words.now c → reads_file c ≡ true →
-        S.begins src.new ≡ one_more (S.begins src.old) }
-    ensures unread { (c : Asked) → IsCommand words.now c → reads_file c ≡ false →
-        src.new ≡ src.old }
-    ensures sure { (c : Asked) → IsCommand words.now c →
-        S.sure src.old (file_of c) → result ≢ Status.ReadFault }
-
-    // A device is to blame only where it failed, and a failed write is the last.
-    ensures read { Blames (result ≡ Status.ReadFault) (S.faults src.old) (S.faults src.new) }
-    ensures write { BlamesLast (result ≡ Status.WriteFault)
-        (K.broken out.new) (K.faults out.old) (K.faults out.new) }
+    // What it does to its devices.
+    ensures source { HasRead (file_of (offline_of words.now)) (src.new ≡ src.old)
+        (S.sure src.old) (S.begins src.old) (S.begins src.new)
+        (S.faults src.old) (S.faults src.new) (result ≡ Status.ReadFault) }
+    ensures sink { HasWritten (is_silent (offline_of words.now) result) (out.new ≡ out.old)
+        (K.broken out.new) (K.faults out.old) (K.faults out.new) (result ≡ Status.WriteFault) }
 
     // The error sink has the status's line, or has failed within it.
     ensures said { Says (error_line result)
         (K.written err.old) (K.written err.new) (K.faults err.old) (K.faults err.new) }
 {
-    let status = match Command::parse(words) {
-        Some(command) => answer(alloc, command, src, out, journal),
-        None => Status::Usage,
-    };
+    let status = answer(alloc, words, src, out, journal);
     say(err, &status);
     status
 }
@@ -128,12 +168,42 @@ pub fn offline<S: Source, K: Sink>(
 /// The name of the workload that the words ask to run, if they do.
 fn run_asked<'a>(words: &[&'a str]) -> Option<&'a str>
     ensures { MatchOption result
-        ((name : List ℕ) → AsksForRun words.now name → ⊥)
-        (λ name. AsksForRun words.now name.now) }
+        (request_of words.now ≡ offline_of words.now)
+        (λ file. request_of words.now ≡ Some (run file.now)) }
 {
     match words {
         ["run", file] => Some(file),
         _ => None,
+    }
+}
+
+/// Does the command or the run of the words, if there is one, and says how it ended.
+fn respond<R: Threads + Wait + Sync, S: Source, K: Sink, D: Dock, G: Gate>(
+    rt: &R,
+    alloc: Global,
+    words: &[&str],
+    src: &mut S,
+    out: &mut K,
+    dock: &mut D,
+    gate: &G,
+    journal: &mut Journal,
+) -> Status
+    requires { journal.old.items ≡ [] }
+    ensures usage { IfNone (request_of words.now)
+        ((result ≡ Status.Usage) × (journal.new ≡ journal.old)) }
+    ensures answered { IfSome (request_of words.now) (λ request.
+        Answers (S.held src.old) (S.left src.new) request (K.written out.old) (K.written out.new)
+        (D.stories dock.old) (D.stories dock.new) journal.new.items result) }
+    ensures source { HasRead (file_of (request_of words.now)) (src.new ≡ src.old)
+        (S.sure src.old) (S.begins src.old) (S.begins src.new)
+        (S.faults src.old) (S.faults src.new) (result ≡ Status.ReadFault) }
+    ensures sink { HasWritten (is_silent (request_of words.now) result) (out.new ≡ out.old)
+        (K.broken out.new) (K.faults out.old) (K.faults out.new) (result ≡ Status.WriteFault) }
+    ensures ringless { is_ringless (request_of words.now) result ≡ true → dock.new ≡ dock.old }
+{
+    match run_asked(words) {
+        Some(file) => run_file(rt, alloc, file, src, out, dock, gate, journal),
+        None => answer(alloc, words, src, out, journal),
     }
 }
 
@@ -162,41 +232,29 @@ pub fn sysview<R: Threads + Wait + Sync, S: Source, K: Sink, D: Dock, G: Gate>(
     requires { journal.old.items ≡ [] }
 
     // The words alone are to blame.
-    ensures usage { (result ≡ Status.Usage) ↔ ((r : Request) → IsRequest words.now r → ⊥) }
+    ensures usage { (result ≡ Status.Usage) ↔ (request_of words.now ≡ None) }
     ensures untouched { result ≡ Status.Usage → (src.new ≡ src.old) × (out.new ≡ out.old)
         × (dock.new ≡ dock.old) × (journal.new ≡ journal.old) }
 
     // The bytes of the file fix the answer of a command, as far as they were taken, or its number
     // does; a run answers with its journal, the report of that, and its story.
-    ensures answered { (r : Request) → IsRequest words.now r →
-        Answers (S.held src.old) (S.left src.new) r (K.written out.old) (K.written out.new)
-        (D.stories dock.old) (D.stories dock.new) journal.new.items result }
-    ensures unwritten { (r : Request) → IsRequest words.now r →
-        is_silent r result ≡ true → out.new ≡ out.old }
-    ensures ringless { (r : Request) → IsRequest words.now r →
-        is_ringless r result ≡ true → dock.new ≡ dock.old }
+    ensures answered { IfSome (request_of words.now) (λ request.
+        Answers (S.held src.old) (S.left src.new) request (K.written out.old) (K.written out.new)
+        (D.stories dock.old) (D.stories dock.new) journal.new.items result) }
 
-    // A file is begun once, and is read where it can be; with no file the source stays as it was.
-    ensures begins { (r : Request) → IsRequest words.now r → asks_for_file r ≡ true →
-        S.begins src.new ≡ one_more (S.begins src.old) }
-    ensures unread { (r : Request) → IsRequest words.now r → asks_for_file r ≡ false →
-        src.new ≡ src.old }
-    ensures sure { (r : Request) → IsRequest words.now r →
-        S.sure src.old (asked_file r) → result ≢ Status.ReadFault }
-
-    // A device is to blame only where it failed, and a failed write is the last.
-    ensures read { Blames (result ≡ Status.ReadFault) (S.faults src.old) (S.faults src.new) }
-    ensures write { BlamesLast (result ≡ Status.WriteFault)
-        (K.broken out.new) (K.faults out.old) (K.faults out.new) }
+    // What it does to its devices.
+    ensures source { HasRead (file_of (request_of words.now)) (src.new ≡ src.old)
+        (S.sure src.old) (S.begins src.old) (S.begins src.new)
+        (S.faults src.old) (S.faults src.new) (result ≡ Status.ReadFault) }
+    ensures sink { HasWritten (is_silent (request_of words.now) result) (out.new ≡ out.old)
+        (K.broken out.new) (K.faults out.old) (K.faults out.new) (result ≡ Status.WriteFault) }
+    ensures ringless { is_ringless (request_of words.now) result ≡ true → dock.new ≡ dock.old }
 
     // The error sink has the status's line, or has failed within it.
     ensures said { Says (error_line result)
         (K.written err.old) (K.written err.new) (K.faults err.old) (K.faults err.new) }
 {
-    let Some(name) = run_asked(words) else {
-        return offline(alloc, words, src, out, err, journal);
-    };
-    let status = run_file(rt, alloc, name, src, out, dock, gate, journal);
+    let status = respond(rt, alloc, words, src, out, dock, gate, journal);
     say(err, &status);
     status
 }

@@ -1,5 +1,6 @@
 use Rattle.std.proofs.Common.{arith}
-use Rattle.sv_cli.proofs.Files.{of_nothing, read_whole}
+use Rattle.sv_cli.proofs.Files.{read_whole}
+use Rattle.sv_view.proofs.Shared.{of_nothing}
 use Rattle.sv_cli.proofs.reading.read_file.Goals as goal
 
 pub returns-in_default-clause-read : goal.returns-in_default-clause-read

@@ -1,22 +1,28 @@
-use Rattle.sv_report.specs.ReportText.{text_of}
-use Rattle.sv_cli.specs.Recorded.{HasRun, IsReportText}
-use Rattle.sv_cli.specs.Request.{offline, run}
-use Rattle.sv_cli.proofs.Requests.{none_asked, not_usage}
+use Rattle.std.proofs.Common.{Option, ap}
+use Rattle.sv_cli.specs.Answers.{is_ringless, is_silent}
+use Rattle.sv_cli.specs.Commands.{Request, file_of, request_of}
+use Rattle.sv_cli.proofs.Requests.{nothing_asked, of_none, no_file}
 use Rattle.sv_cli.proofs.top.sysview.Goals as goal
 
-pub returns-in_default-clause-usage : goal.returns-in_default-clause-usage
-returns-in_default-clause-usage g c = (
-  λ is. none_asked c.args.words.now c.in_default.ensures (c.offline.ensures.usage.0 is),
-  λ none. c.offline.ensures.usage.1 (λ asked is. none (offline asked) is),
+pub returns-clause-usage : goal.returns-clause-usage
+returns-clause-usage g c = (
+  λ is. nothing_asked (g.S.Source.held c.args.src.now) (g.S.Source.left c.respond-status.new.src)
+      (g.K.Sink.written c.args.out.now) (g.K.Sink.written c.respond-status.new.out)
+      (g.D.Dock.stories c.args.dock.now) (g.D.Dock.stories c.respond-status.new.dock) c.respond-status.new.journal.items c.respond-status.result (request_of c.args.words.now)
+      (c.respond-status.ensures.answered) is,
+  λ none. (of_none (request_of c.args.words.now) c.respond-status.ensures.usage none).0,
 )
 
-pub returns-clause-usage : goal.returns-clause-usage
-returns-clause-usage g c =
-    let answered = c.run_file-status.ensures.answered in (
-      λ is. absurd (not_usage
-          (HasRun (g.D.Dock.stories c.args.dock.now) (g.D.Dock.stories c.run_file-status.new.dock))
-          (IsReportText text_of) answered.file answered.taken (g.K.Sink.written c.args.out.now)
-          (g.K.Sink.written c.run_file-status.new.out) c.run_file-status.new.journal.items
-          c.run_file-status.result answered.so is),
-      λ none. absurd (none (run c.in-Some.name.now) c.in-Some.ensures),
+pub returns-clause-untouched : goal.returns-clause-untouched
+returns-clause-untouched g c = λ is.
+    let none = nothing_asked (g.S.Source.held c.args.src.now) (g.S.Source.left c.respond-status.new.src)
+    (g.K.Sink.written c.args.out.now) (g.K.Sink.written c.respond-status.new.out)
+    (g.D.Dock.stories c.args.dock.now) (g.D.Dock.stories c.respond-status.new.dock) c.respond-status.new.journal.items c.respond-status.result (request_of c.args.words.now)
+    (c.respond-status.ensures.answered) is in (
+      no_file (file_of (request_of c.args.words.now)) c.respond-status.ensures.source.unread
+          (ap file_of none),
+      c.respond-status.ensures.sink.unwritten
+          (ap (λ (a : Option Request). is_silent a c.respond-status.result) none),
+      c.respond-status.ensures.ringless (ap (λ (a : Option Request). is_ringless a c.respond-status.result) none),
+      (of_none (request_of c.args.words.now) c.respond-status.ensures.usage none).1,
     )

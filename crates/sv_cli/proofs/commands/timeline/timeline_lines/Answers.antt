@@ -1,8 +1,0 @@
-use Rattle.sv_cli.proofs.Timelines.{all_lines, all_text}
-use Rattle.sv_cli.proofs.commands.timeline.timeline_lines.Goals as goal
-
-pub returns-clause-whole : goal.returns-clause-whole
-returns-clause-whole c = all_text
-
-pub returns-clause-lines : goal.returns-clause-lines
-returns-clause-lines c = all_lines

@@ -1,8 +1,0 @@
-use Rattle.std.proofs.Common.{refl}
-use Rattle.sv_cli.proofs.Begun.{between-none}
-use Rattle.sv_cli.proofs.scan.Scan.new.Goals as goal
-
-pub returns : goal.returns
-returns g c =
-    λ left out. between-none g.V.View.text g.V.View.shown left out _ c.new.ensures.stands
-    c.new.ensures.settled c.requires refl c.new-2.ensures.items

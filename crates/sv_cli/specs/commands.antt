@@ -1,5 +1,0 @@
--- What each command writes of a recording.
-pub mod Events
-pub mod Check
-pub mod Timeline
-pub mod Report

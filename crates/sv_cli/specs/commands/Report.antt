@@ -1,9 +1,0 @@
--- What `report` writes: the report of all events, at the end.
-use Rattle.std.specs.Prelude.{[]}
-use Rattle.sv_analyse.specs.Report.{report_from}
-use Rattle.sv_report.specs.ReportText.{text_of}
-use Rattle.sv_cli.specs.Text.{Text}
-
-abbrev pub report_text : Text
-report_text =
-    record { line = λ earlier event. []; last = λ events end. text_of (report_from events end) }

@@ -1,0 +1,11 @@
+pub mod Shared
+pub mod Parts
+pub mod Lines
+pub mod Outcomes
+pub mod Begun
+pub mod Fed
+pub mod Pieces
+pub mod Ended
+pub mod Files
+pub mod Timelines
+pub mod Lives

@@ -2,7 +2,9 @@ pub mod Results
 pub mod FirstSeen
 pub mod Naming
 pub mod Silent
+pub mod Seeing
 pub mod Draining
+pub mod Shared
 pub mod Sorted
 pub mod Ordered
 pub mod Gathered

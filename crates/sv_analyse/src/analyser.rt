@@ -7,6 +7,8 @@ ghost use Rattle.sv_packet.specs.Events.{last_time};
 ghost use Rattle.sv_stream.specs.declared.end.End.{End as HowItEnds};
 ghost use Rattle.sv_stream.specs.Reads.{Reads};
 ghost use Rattle.sv_stream.specs.Decoding.{pushed};
+ghost use Rattle.sv_stream.specs.Entries.{packets_of};
+ghost use Rattle.sv_stream.specs.Input.{Entry};
 ghost use Rattle.sv_timeline.specs.declared.span.Span.{Span as Run};
 ghost use Rattle.sv_timeline.specs.Timeline.{IsTimeline};
 ghost use Rattle.sv_analyse.specs.Report.{report_of};
@@ -16,7 +18,7 @@ use crate::analysis::Analysis;
 use crate::report::Report;
 use std::alloc::Global;
 use std::marker::Model;
-use sv_feed::drain_events;
+use sv_feed::drain_entries;
 use sv_prim::NoMemory;
 use sv_stream::{Decoder, End};
 use sv_timeline::Span;
@@ -58,7 +60,7 @@ impl Analyser {
     }
 
     /// The input goes on with the piece, and the runs that have ended are added to `spans`. All
-    /// pieces together have at most 2^33 bytes. After damage later bytes change nothing.
+    /// pieces together have at most 2^33 bytes.
     ///
     /// After NoMemory the first of these runs were added, maybe none, and every later `feed` and
     /// `report` answers NoMemory.
@@ -85,7 +87,7 @@ impl Analyser {
             self.analysis.fail();
             return Err(NoMemory);
         };
-        drain_events(&mut self.decoder, &mut self.analysis, spans)?;
+        drain_entries(&mut self.decoder, &mut self.analysis, spans)?;
         Ok(())
     }
 
@@ -93,7 +95,8 @@ impl Analyser {
     pub fn finish(&self) -> End
         requires { self.now.analysis.failed ≡ false }
         ensures { (input : List ℕ) (given : List Run) → StandsFor self.now input given →
-            (packets : List Packet) → (end : HowItEnds) → Reads input packets end → result ≡ end }
+            (entries : List (Entry Packet)) → (end : HowItEnds) →
+            Reads input entries end → result ≡ end }
     {
         self.decoder.finish()
     }
@@ -102,11 +105,11 @@ impl Analyser {
     pub fn tail(&self) -> Option<Span>
         requires { self.now.analysis.failed ≡ false }
         ensures whole { (input : List ℕ) (given : List Run) → StandsFor self.now input given →
-            (packets : List Packet) → (end : HowItEnds) → Reads input packets end →
-            IsTimeline (timed packets) (given ++ option_to_list result) }
+            (entries : List (Entry Packet)) → (end : HowItEnds) → Reads input entries end →
+            IsTimeline (timed (packets_of entries)) (given ++ option_to_list result) }
         ensures none { (input : List ℕ) (given : List Run) → StandsFor self.now input given →
-            (packets : List Packet) → (end : HowItEnds) → Reads input packets end →
-            (IsNone result ↔ (last_time (timed packets) ≡ 0)) }
+            (entries : List (Entry Packet)) → (end : HowItEnds) → Reads input entries end →
+            (IsNone result ↔ (last_time (timed (packets_of entries)) ≡ 0)) }
     {
         self.analysis.tail()
     }
@@ -114,8 +117,8 @@ impl Analyser {
     /// The report of the input so far. After NoMemory nothing has changed.
     pub fn report(&self) -> Result<Report, NoMemory>
         ensures report { IfOk result (λ report. (input : List ℕ) (given : List Run) →
-            StandsFor self.now input given → (packets : List Packet) → (end : HowItEnds) →
-            Reads input packets end → report ≡ report_of packets end) }
+            StandsFor self.now input given → (entries : List (Entry Packet)) →
+            (end : HowItEnds) → Reads input entries end → report ≡ report_of entries end) }
         ensures live { IsOk result → self.now.analysis.failed ≡ false }
     {
         if self.analysis.has_failed() {

@@ -1,15 +1,17 @@
 //! What the events so far say.
-ghost use Rattle.std.specs.Prelude.{◌≡◌, ◌+◌, ◌^◌, ◌<◌, ◌≤◌, ◌++◌, List, [], ◌∷◌, ◌↔◌};
+ghost use Rattle.std.specs.Prelude.{◌≡◌, ℕ, ◌+◌, ◌^◌, ◌<◌, ◌≤◌, ◌++◌, List, [], ◌∷◌, ◌↔◌};
 ghost use Rattle.std.specs.Prelude.{false, true, IfOk, IsOk, OnOk, OnErr, IsNone, option_to_list};
-ghost use Rattle.sv_packet.specs.declared.event.TimedEvent.{TimedEvent as Timed};
+ghost use Rattle.sv_prim.specs.declared.got.Reason.{Reason as Why};
 ghost use Rattle.sv_packet.specs.EventRef.{seen_at};
 ghost use Rattle.sv_packet.specs.Events.{last_time};
+ghost use Rattle.sv_stream.specs.declared.seen.Seen.{Seen as WhatIsSeen};
+ghost use Rattle.sv_stream.specs.Entries.{events_of};
 ghost use Rattle.sv_timeline.specs.declared.span.Span.{Span as Run};
 ghost use Rattle.sv_timeline.specs.Timeline.{IsTimeline};
 ghost use Rattle.sv_timeline.specs.Runs.{ended_runs};
 ghost use Rattle.sv_timeline.specs.State.{ended_by};
 ghost use Rattle.sv_analyse.specs.Report.{report_from};
-ghost use Rattle.sv_analyse.specs.State.{AnalysisStandsFor};
+ghost use Rattle.sv_analyse.specs.State.{AnalysisStandsFor, stop_at};
 
 use crate::lines::Lines;
 use crate::lists::{copies, module_lines, task_lines};
@@ -22,7 +24,7 @@ use sv_feed::Gather;
 use sv_latency::Latency;
 use sv_packet::EventRef;
 use sv_prim::NoMemory;
-use sv_stream::End;
+use sv_stream::{End, Mark};
 use sv_timeline::{Span, Timeline};
 
 /// The timeline, the latencies and the names of the events so far, however they were decoded. Once
@@ -34,6 +36,7 @@ pub struct Analysis {
     latency: Latency,
     names: Names,
     packets: u64,
+    marks: u64,
     failed: bool,
 }
 
@@ -47,10 +50,11 @@ impl Model for Analysis {
       latency = a.latency;
       names = a.names;
       packets = a.packets;
+      marks = a.marks;
       failed = a.failed;
     } };
 
-    ghost invariant = { λ a. IsLive a.timeline a.latency a.names a.packets a.failed };
+    ghost invariant = { λ a. IsLive a.timeline a.latency a.names a.packets a.marks a.failed };
 }
 
 impl Analysis {
@@ -58,7 +62,7 @@ impl Analysis {
     pub fn new(alloc: Global) -> Analysis
         ensures stands { AnalysisStandsFor result [] [] }
         ensures live { result.failed ≡ false }
-        ensures packets { result.packets ≡ 0 }
+        ensures count { result.packets + result.marks ≡ 0 }
         ensures last { result.timeline.last ≡ 0 }
     {
         Analysis {
@@ -67,6 +71,7 @@ impl Analysis {
             latency: Latency::new(alloc),
             names: Names::new(alloc),
             packets: 0,
+            marks: 0,
             failed: false,
         }
     }
@@ -85,16 +90,17 @@ impl Analysis {
     #[inline(always)]
     pub fn step(&mut self, time: u64, event: &EventRef<'_>) -> Result<Option<Span>, NoMemory>
         requires live { self.old.failed ≡ false }
-        requires few { self.old.packets < 2 ^ 32 }
+        requires few { self.old.packets + self.old.marks < 2 ^ 32 }
         requires order { self.old.timeline.last ≤ time }
-        ensures stands { OnOk result ((events : List Timed) (given : List Run) →
-            AnalysisStandsFor self.old events given →
-            AnalysisStandsFor self.new (events ++ seen_at time event.now ∷ [])
+        ensures stands { OnOk result ((seen : List WhatIsSeen) (given : List Run) →
+            AnalysisStandsFor self.old seen given →
+            AnalysisStandsFor self.new (seen ++ WhatIsSeen.Event (seen_at time event.now) ∷ [])
             (given ++ ended_by self.old.timeline (seen_at time event.now))) }
         ensures run { IfOk result (λ run.
             option_to_list run ≡ ended_by self.old.timeline (seen_at time event.now)) }
         ensures live { OnOk result (self.new.failed ≡ false) }
-        ensures packets { OnOk result (self.new.packets ≡ self.old.packets + 1) }
+        ensures count { OnOk result (self.new.packets + self.new.marks
+            ≡ self.old.packets + self.old.marks + 1) }
         ensures last { OnOk result (self.new.timeline.last ≡ time) }
         ensures failed { OnErr result (self.new.failed ≡ true) }
     {
@@ -103,6 +109,34 @@ impl Analysis {
         self.latency.apply(time, event)?;
         self.names.note(event)?;
         self.packets += 1;
+        self.failed = false;
+        Ok(run)
+    }
+
+    /// Goes on with a mark at its time in ticks, which is not before the last event, as with the end
+    /// of a recording. Gives the run that it ends, if it ends one.
+    ///
+    /// After NoMemory it has failed for good.
+    pub fn stop(&mut self, time: u64) -> Result<Option<Span>, NoMemory>
+        requires live { self.old.failed ≡ false }
+        requires few { self.old.packets + self.old.marks < 2 ^ 32 }
+        requires order { self.old.timeline.last ≤ time }
+        ensures stands { OnOk result ((seen : List WhatIsSeen) (given : List Run) →
+            AnalysisStandsFor self.old seen given → (place : ℕ) (reason : Why) →
+            AnalysisStandsFor self.new (seen ++ WhatIsSeen.Damage time place reason ∷ [])
+            (given ++ ended_by self.old.timeline (stop_at time))) }
+        ensures run { IfOk result (λ run.
+            option_to_list run ≡ ended_by self.old.timeline (stop_at time)) }
+        ensures live { OnOk result (self.new.failed ≡ false) }
+        ensures count { OnOk result (self.new.packets + self.new.marks
+            ≡ self.old.packets + self.old.marks + 1) }
+        ensures last { OnOk result (self.new.timeline.last ≡ time) }
+        ensures failed { OnErr result (self.new.failed ≡ true) }
+    {
+        self.failed = true;
+        let run = self.timeline.step(time, &EventRef::TraceStop)?;
+        self.latency.apply(time, &EventRef::TraceStop)?;
+        self.marks += 1;
         self.failed = false;
         Ok(run)
     }
@@ -116,11 +150,12 @@ impl Analysis {
 
     /// The run that may still grow.
     pub fn tail(&self) -> Option<Span>
-        ensures whole { (events : List Timed) (given : List Run) →
-            AnalysisStandsFor self.now events given →
-            IsTimeline events (given ++ option_to_list result) }
-        ensures none { (events : List Timed) (given : List Run) →
-            AnalysisStandsFor self.now events given → (IsNone result ↔ (last_time events ≡ 0)) }
+        ensures whole { (seen : List WhatIsSeen) (given : List Run) →
+            AnalysisStandsFor self.now seen given →
+            IsTimeline (events_of seen) (given ++ option_to_list result) }
+        ensures none { (seen : List WhatIsSeen) (given : List Run) →
+            AnalysisStandsFor self.now seen given →
+            (IsNone result ↔ (last_time (events_of seen) ≡ 0)) }
     {
         self.timeline.tail()
     }
@@ -137,8 +172,8 @@ impl Analysis {
 
     /// The report of the events so far, with this end. NoMemory where it has failed as well.
     pub fn report(&self, end: End) -> Result<Report, NoMemory>
-        ensures report { IfOk result (λ report. (events : List Timed) (given : List Run) →
-            AnalysisStandsFor self.now events given → report ≡ report_from events end) }
+        ensures report { IfOk result (λ report. (seen : List WhatIsSeen) (given : List Run) →
+            AnalysisStandsFor self.now seen given → report ≡ report_from seen end) }
         ensures live { IsOk result → self.now.failed ≡ false }
     {
         if self.failed {
@@ -156,6 +191,7 @@ impl Analysis {
             lost,
             overflows,
             anomalies: self.timeline.anomalies(),
+            damaged: self.marks,
             system: self.names.system(),
             descs: Lines::new(descs),
             modules: Lines::new(modules),
@@ -167,9 +203,10 @@ impl Analysis {
 }
 
 impl Gather<Span> for Analysis {
+    ghost use Rattle.sv_stream.specs.Entries.{events_of};
     ghost use Rattle.sv_analyse.specs.State.{HasTaken};
 
-    ghost made = { ended_runs };
+    ghost made = { λ seen. ended_runs (events_of seen) };
 
     ghost taken = { HasTaken };
 
@@ -191,6 +228,19 @@ impl Gather<Span> for Analysis {
             self.failed = true;
             return Err(NoMemory);
         }
+        Ok(())
+    }
+
+    /// Adds the run that the mark ends to `spans`, if it ends one. They stay as they were after
+    /// NoMemory.
+    fn mark(&mut self, mark: &Mark, spans: &mut Vec<Span>) -> Result<(), NoMemory> {
+        let Some(run) = self.stop(mark.time)? else {
+            return Ok(());
+        };
+        let Ok(()) = spans.push(run) else {
+            self.failed = true;
+            return Err(NoMemory);
+        };
         Ok(())
     }
 }

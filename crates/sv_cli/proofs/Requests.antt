@@ -17,7 +17,7 @@ use Rattle.sv_cli.specs.declared.status.Status.TheVariants.{Usage}
 use Rattle.sv_cli.specs.Answers.{Answers}
 use Rattle.sv_view.specs.Text.{Text}
 use Rattle.sv_cli.specs.Commands.{Request, show, live, play, generate, run, by_two, named_in}
-use Rattle.sv_cli.specs.Commands.{offline_of, show_request, shows}
+use Rattle.sv_cli.specs.Commands.{by_three, most_of_piece, number_in, offline_of, show_request, shows}
 use Rattle.sv_cli.specs.Recorded.{IsGenerated, IsRecorded}
 use Rattle.sv_cli.specs.Status.{status_for}
 
@@ -100,6 +100,14 @@ by_view name word number report recording =
     let no_report = other_name name (codes "simulate") report in
     let no_recording = other_name name (codes "record") recording in
     rw (no_number, no_report, no_recording) refl
+
+-- three words ask for reports piece by piece
+pub by_live : (name size file : List ℕ) (n : ℕ) → bytes_eq name (codes "live") ≡ true
+    → Some n ≡ number_in most_of_piece size → by_three name size file ≡ Some (live n file)
+by_live name size file n same is =
+    let other : bytes_eq (codes "live") name ≡ true =
+    (bytes_eq-Decides (codes "live") name).1 (sym ((bytes_eq-Decides name (codes "live")).0 same)) in
+    rw (other, sym is) refl
 
 -- too few words, and too many, ask for nothing
 pub none_short : (words : List (Bor (List ℕ))) → length words < 2 → offline_of words ≡ None

@@ -1,13 +1,14 @@
 -- What `record`, `simulate` and `run` make of a workload's text, and `generate` of a number, and
 -- what they answer where a device fails.
 use Rattle.std.specs.Prelude.{◌≡◌, ℕ, ◌^◌, ◌<◌, ◌≤◌, Bool, true, false, List, [], ◌++◌, length}
-use Rattle.std.specs.Prelude.{Option, Some, Result, Ok, Err, codes}
+use Rattle.std.specs.Prelude.{Option, Some, Result, Ok, Err, codes, map}
 use Rattle.std.specs.Global.{Vec}
 use Rattle.std.specs.Io.KnownBytes.{Appends}
 use Rattle.sv_base.specs.Streams.{AppendsPart}
 use Rattle.sv_packet.specs.declared.event.Packet.{Packet}
 use Rattle.sv_stream.specs.declared.end.End.{End}
 use Rattle.sv_stream.specs.declared.end.End.TheVariants as ends
+use Rattle.sv_stream.specs.Input.{Whole}
 use Rattle.sv_stream.specs.Reads.{Reads}
 use Rattle.sv_ring.specs.declared.story.Story.{Story}
 use Rattle.sv_analyse.specs.declared.report.Report.{Report}
@@ -63,12 +64,12 @@ sent_end true = ends.Clean
 sent_end false = ends.NoSync
 
 -- what `simulate`, `run` and `generate` write of a journal: a text of the report of the bytes that
--- were sent
+-- were sent, which are packets alone, with no damage
 pub record IsReportText (text : Report → List ℕ) (load : Load) (items : List Item)
     (made : List ℕ) : Type 0 where
   pub packets : List Packet
-  pub reads : Reads (stream_of load items) packets (sent_end (has_start load items))
-  pub made_is : made ≡ text (report_of packets (sent_end (has_start load items)))
+  pub reads : Reads (stream_of load items) (map Whole packets) (sent_end (has_start load items))
+  pub made_is : made ≡ text (report_of (map Whole packets) (sent_end (has_start load items)))
 
 -- what is made of a simulation: a text of its report, or a recording
 abbrev pub makes_of : Make → Load → List Item → List ℕ → Type 0

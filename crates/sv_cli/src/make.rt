@@ -1,11 +1,13 @@
 //! What is made of a workload's simulation.
-ghost use Rattle.std.specs.Prelude.{◌≡◌, ◌≤◌, ◌^◌, ◌++◌, List, length, IfOk};
+ghost use Rattle.std.specs.Prelude.{◌≡◌, ◌≤◌, ◌^◌, ◌++◌, List, length, map, IfOk};
 ghost use Rattle.sv_prim.specs.Text.{AreBytes};
 ghost use Rattle.sv_packet.specs.declared.event.Packet.{Packet};
 ghost use Rattle.sv_stream.specs.declared.end.End.{End as HowItEnds};
+ghost use Rattle.sv_stream.specs.Input.{Entry, Whole};
 ghost use Rattle.sv_stream.specs.Reads.{Reads};
 ghost use Rattle.sv_analyse.specs.Report.{report_of};
 ghost use Rattle.sv_journal.specs.Stream.{stream_of};
+ghost use Rattle.sv_sent.specs.Sent.{sent_packets};
 ghost use Rattle.sv_sent.specs.Start.{has_start};
 ghost use Rattle.sv_cli.specs.Recorded.{head_of, makes_of, sent_end};
 
@@ -46,8 +48,8 @@ impl Make {
 /// The report of these bytes.
 fn report_of_bytes(alloc: Global, bytes: &[u8]) -> Result<Report, NoMemory>
     requires short { length bytes.now ≤ 2 ^ 33 }
-    ensures report { IfOk result (λ report. (packets : List Packet) → (end : HowItEnds) →
-        Reads bytes.now packets end → report ≡ report_of packets end) }
+    ensures report { IfOk result (λ report. (entries : List (Entry Packet)) →
+        (end : HowItEnds) → Reads bytes.now entries end → report ≡ report_of entries end) }
     ensures bytes { AreBytes bytes.now }
 {
     let mut analyser = Analyser::new(alloc);
@@ -66,8 +68,10 @@ pub fn rest_of(
 ) -> Result<Vec<u8>, NoMemory>
     requires short { length bytes.items ≤ 2 ^ 33 }
     requires sent { bytes.items ≡ stream_of load.now journal.now.items }
-    requires ends { (packets : List Packet) → (end : HowItEnds) → Reads bytes.items packets end →
-        end ≡ sent_end (has_start load.now journal.now.items) }
+    requires ends { (entries : List (Entry Packet)) → (end : HowItEnds) →
+        Reads bytes.items entries end →
+        (entries ≡ map Whole (sent_packets load.now journal.now.items))
+        × (end ≡ sent_end (has_start load.now journal.now.items)) }
     ensures { IfOk result (λ rest.
         makes_of make load.now journal.now.items (head_of make ++ rest.items)) }
 {

@@ -1,10 +1,13 @@
 //! The commands `record` and `simulate`, which simulate a workload and write what is made of it.
-ghost use Rattle.std.specs.Prelude.{◌≡◌, ◌≤◌, ◌^◌, ◌++◌, List, [], Some, length, IfOk, OnOk};
+ghost use Rattle.std.specs.Prelude.{◌≡◌, ◌≤◌, ◌^◌, ◌++◌, List, [], Some};
+ghost use Rattle.std.specs.Prelude.{length, map, IfOk, OnOk};
 ghost use Rattle.sv_packet.specs.declared.event.Packet.{Packet};
 ghost use Rattle.sv_stream.specs.declared.end.End.{End};
+ghost use Rattle.sv_stream.specs.Input.{Entry, Whole};
 ghost use Rattle.sv_stream.specs.Reads.{Reads};
 ghost use Rattle.sv_journal.specs.Stream.{stream_of};
 ghost use Rattle.sv_core.specs.Simulated.{IsSimulated};
+ghost use Rattle.sv_sent.specs.Sent.{sent_packets};
 ghost use Rattle.sv_sent.specs.Start.{has_start};
 ghost use Rattle.sv_truth.specs.Truth.{TellsTruly};
 ghost use Rattle.sv_view.specs.Files.{OfFile};
@@ -30,9 +33,10 @@ fn run_of(alloc: Global, load: &Workload) -> Result<Simulated, NoMemory>
     ensures names { IfOk result (λ run. TellsTruly load.now run.journal.items) }
     ensures sent { IfOk result (λ run. run.bytes.items ≡ stream_of load.now run.journal.items) }
     ensures short { IfOk result (λ run. length run.bytes.items ≤ 2 ^ 33) }
-    ensures ends { IfOk result (λ run. (packets : List Packet) → (end : End) →
-        Reads run.bytes.items packets end →
-        end ≡ sent_end (has_start load.now run.journal.items)) }
+    ensures ends { IfOk result (λ run. (entries : List (Entry Packet)) → (end : End) →
+        Reads run.bytes.items entries end →
+        (entries ≡ map Whole (sent_packets load.now run.journal.items))
+        × (end ≡ sent_end (has_start load.now run.journal.items))) }
 {
     // What is known of every such stream: that it is short, how it ends, and that it names nothing
     // that is not so.

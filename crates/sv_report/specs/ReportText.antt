@@ -1,6 +1,6 @@
 -- The text of a report, line by line (an own layout): words, numbers in decimal and texts between
 -- quotation marks, parted by one space.
-use Rattle.std.specs.Prelude.{ℕ, ◌/◌, ◌%◌, ◌==◌, List, [], ◌∷◌, ◌++◌, map, flat_map, codes, Option}
+use Rattle.std.specs.Prelude.{ℕ, zero, suc, ◌/◌, ◌%◌, ◌==◌, List, [], ◌∷◌, ◌++◌, map, flat_map, codes, Option}
 use Rattle.std.specs.Prelude.{Some, None, if◌then◌else◌}
 use Rattle.std.specs.Fmt.{decimal}
 use Rattle.sv_latency.specs.declared.class.TaskTimes.{TaskTimes}
@@ -76,19 +76,24 @@ task_line line =
     codes "task " ++ (decimal line.times.task ++ (codes " " ++ (id_word line.id
     ++ (codes " " ++ (name_word line.name ++ times_words line.times)))))
 
--- the four lines of counts
+-- how many places are damaged, where some are
+abbrev pub damaged_line : ℕ → List ℕ
+damaged_line zero = []
+damaged_line (suc n) = count_line (codes "damaged ") (suc n)
+
+-- the lines of counts
 abbrev pub counts_of : Report → List ℕ
 counts_of report =
     count_line (codes "packets ") report.packets
     ++ (count_line (codes "ticks ") report.ticks
     ++ (lost_line report.lost report.overflows
-    ++ count_line (codes "anomalies ") report.anomalies))
+    ++ (count_line (codes "anomalies ") report.anomalies ++ damaged_line report.damaged)))
 
 -- the counts alone, and how it ended
 abbrev pub short_text_of : Report → List ℕ
 short_text_of report = counts_of report ++ end_line report.end
 
--- the five lines that each report has
+-- the lines that each report has
 abbrev pub head_of : Report → List ℕ
 head_of report = counts_of report ++ system_line report.system
 

@@ -2,7 +2,7 @@
 ghost use Rattle.std.specs.Prelude.{◌≡◌, ◌++◌, ◌<◌, ◌/◌, ◌%◌, OnOk, IfOk, codes, flat_map};
 ghost use Rattle.std.specs.Fmt.{decimal};
 ghost use Rattle.sv_report.specs.Lines.{hex_digit as digit_of};
-ghost use Rattle.sv_report.specs.ReportText.{count_line, counts_of, head_of, lost_line};
+ghost use Rattle.sv_report.specs.ReportText.{count_line, counts_of, damaged_line, head_of, lost_line};
 ghost use Rattle.sv_report.specs.ReportText.{short_text_of};
 ghost use Rattle.sv_report.specs.ReportText.{system_line as line_of_system};
 ghost use Rattle.sv_report.specs.ReportText.{desc_line, module_line, load_line, task_line, text_of};
@@ -26,8 +26,8 @@ fn put_counted(words: &str, number: u64, out: &mut Vec<u8>) -> Result<(), AllocE
     out.extend_from_slice(Buffer::new().format(number).as_bytes())
 }
 
-/// Appends words, a number and the line's end.
-fn put_count(words: &str, number: u64, out: &mut Vec<u8>) -> Result<(), AllocError>
+/// Appends words, a number in decimal and the line's end. After an error the buffer is open.
+pub fn put_count(words: &str, number: u64, out: &mut Vec<u8>) -> Result<(), AllocError>
     ensures { OnOk result (out.new.items ≡ out.old.items ++ count_line words.now number) }
 {
     put_counted(words, number, out)?;
@@ -55,6 +55,17 @@ fn put_system(system: Option<System>, out: &mut Vec<u8>) -> Result<(), AllocErro
     }
 }
 
+/// Appends the line of how many places are damaged, where some are. After an error the buffer is
+/// open.
+pub fn put_marks(damaged: u64, out: &mut Vec<u8>) -> Result<(), AllocError>
+    ensures { OnOk result (out.new.items ≡ out.old.items ++ damaged_line damaged) }
+{
+    match damaged {
+        0 => Ok(()),
+        _ => put_count("damaged ", damaged, out),
+    }
+}
+
 /// Appends the lines of counts.
 fn put_counts(report: &Report, out: &mut Vec<u8>) -> Result<(), AllocError>
     ensures { OnOk result (out.new.items ≡ out.old.items ++ counts_of report.now) }
@@ -62,10 +73,11 @@ fn put_counts(report: &Report, out: &mut Vec<u8>) -> Result<(), AllocError>
     put_count("packets ", report.packets, out)?;
     put_count("ticks ", report.ticks, out)?;
     put_lost(report.lost, report.overflows, out)?;
-    put_count("anomalies ", report.anomalies, out)
+    put_count("anomalies ", report.anomalies, out)?;
+    put_marks(report.damaged, out)
 }
 
-/// Appends the five lines that each report has.
+/// Appends the lines that each report has.
 fn put_head(report: &Report, out: &mut Vec<u8>) -> Result<(), AllocError>
     ensures { OnOk result (out.new.items ≡ out.old.items ++ head_of report.now) }
 {

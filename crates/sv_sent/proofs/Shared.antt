@@ -10,4 +10,4 @@ pub use Rattle.sv_sent.proofs.texts.Speakable.{AreSpellable, IsSpellable, act_sp
 pub use Rattle.sv_sent.proofs.reads.Stages.{HowFar}
 pub use Rattle.sv_sent.proofs.reads.Going.{how_far}
 pub use Rattle.sv_sent.proofs.times.Timed.{synced-before}
-pub use Rattle.sv_sent.proofs.reads.Streams.{packets_as, read_as, times_as}
+pub use Rattle.sv_sent.proofs.reads.Streams.{entries_as, packets_as, read_as, times_as}

@@ -3,6 +3,7 @@ ghost use Rattle.sv_packet.specs.declared.event.Packet.{Packet};
 ghost use Rattle.sv_packet.specs.Time.{timed};
 ghost use Rattle.sv_stream.specs.declared.end.End.{End};
 ghost use Rattle.sv_stream.specs.declared.end.End.TheVariants.{Clean, NoSync};
+ghost use Rattle.sv_stream.specs.Input.{Entry, Whole};
 ghost use Rattle.sv_stream.specs.Reads.{Reads};
 ghost use Rattle.sv_load.specs.Load.{Load};
 ghost use Rattle.sv_load.specs.Need.{IsWithinLimits};
@@ -14,11 +15,11 @@ ghost use Rattle.sv_sent.specs.Sent.{sent_packets};
 
 /// The law of a recorder's stream: that of a legal journal with a start is read to a clean end, as
 /// the packets of the stored items, whose times are those of the items where the counter never went
-/// round between two of them. Without a start it is empty. So it is never damaged.
+/// round between two of them. Without a start it is empty. So it has no mark of damage.
 pub fn reads_as_sent()
     ensures clean { (load : Load) → (items : List Item) → IsLegal load items →
         IsWithinLimits load → has_start load items ≡ true →
-        Reads (stream_of load items) (sent_packets load items) Clean }
+        Reads (stream_of load items) (map Whole (sent_packets load items)) Clean }
     ensures silent { (load : Load) → (items : List Item) → IsLegal load items →
         IsWithinLimits load → has_start load items ≡ false →
         stream_of load items ≡ [] }
@@ -28,12 +29,13 @@ pub fn reads_as_sent()
     ensures times { (load : Load) → (items : List Item) → IsLegal load items →
         IsWithinLimits load → IsCalm load items →
         timed (sent_packets load items) ≡ sent_events load items }
-    ensures alone { (load : Load) → (items : List Item) → (packets : List Packet) → (end : End) →
-        IsLegal load items → IsWithinLimits load →
-        Reads (stream_of load items) packets end → packets ≡ sent_packets load items }
-    ensures never_damaged { (load : Load) → (items : List Item) → (packets : List Packet) →
+    ensures alone { (load : Load) → (items : List Item) → (entries : List (Entry Packet)) →
         (end : End) → IsLegal load items → IsWithinLimits load →
-        Reads (stream_of load items) packets end →
+        Reads (stream_of load items) entries end →
+        entries ≡ map Whole (sent_packets load items) }
+    ensures never_damaged { (load : Load) → (items : List Item) →
+        (entries : List (Entry Packet)) → (end : End) → IsLegal load items →
+        IsWithinLimits load → Reads (stream_of load items) entries end →
         ((has_start load items ≡ true) × (end ≡ Clean)) ⊎
         ((has_start load items ≡ false) × (end ≡ NoSync)) }
 {}

@@ -120,19 +120,22 @@ fn devices_that_fail(rt: HostRuntime) -> Result<(), Fail> {
     Ok(())
 }
 
-/// A damaged first piece of 4096 bytes, and more bytes: their source would fail at the next read.
+/// A damaged first piece of 4096 bytes, and more bytes: all are read, and a source that fails behind
+/// the damage is told.
 #[test]
-fn nothing_is_read_after_damage(rt: HostRuntime) -> Result<(), Fail> {
+fn a_damaged_file_is_read_to_its_end(rt: HostRuntime) -> Result<(), Fail> {
     let alloc = rt.alloc();
     let mut file = synced(alloc, &[0x0a, 0x00, 0x17])?;
     for _ in 0..9000 {
         file.push(0x00)?;
     }
     for command in ["events", "check", "timeline", "report"] {
-        let shown = run(alloc, &[command, "f"], &file, &[3], &[])?;
+        let shown = run(alloc, &[command, "f"], &file, &[], &[])?;
         let place = 12;
         assert_eq!(rt; shown.status, Status::Damaged { place, reason: 2 });
-        assert!(rt; shown.out.bytes().ends_with(b"end damaged 12 2\n"));
+        assert!(rt; shown.out.bytes().ends_with(b"end clean\n"));
+        let unread = run(alloc, &[command, "f"], &file, &[3], &[])?;
+        assert_eq!(rt; unread.status, Status::ReadFault);
     }
     Ok(())
 }

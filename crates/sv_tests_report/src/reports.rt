@@ -66,6 +66,9 @@ fn lines_of_ends(rt: HostRuntime) -> Result<(), Fail> {
         assert_eq!(rt; end_line(&end, &mut out), Ok(()));
         assert_eq!(rt; out.as_slice(), line.as_bytes());
     }
+    let mut out = Vec::new(alloc);
+    assert_eq!(rt; mark_line(5, 15, Reason::BadId, &mut out), Ok(()));
+    assert_eq!(rt; out.as_slice(), b"5 DAMAGED 15 2\n".as_slice());
     Ok(())
 }
 

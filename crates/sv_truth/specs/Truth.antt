@@ -7,6 +7,8 @@ use Rattle.sv_packet.specs.declared.event.Packet.{Packet}
 use Rattle.sv_packet.specs.Events.{last_time}
 use Rattle.sv_packet.specs.Time.{timed}
 use Rattle.sv_stream.specs.declared.end.End.{End}
+use Rattle.sv_stream.specs.Entries.{packets_of}
+use Rattle.sv_stream.specs.Input.{Entry}
 use Rattle.sv_stream.specs.Reads.{Reads}
 use Rattle.sv_load.specs.declared.load.Act.{Act}
 use Rattle.sv_load.specs.declared.load.Act.TheVariants as acts
@@ -77,19 +79,20 @@ pub record IsStoredCall (load : Load) (items before : List Item) (event : TimedE
   pub stored : is_stored item.outcome ≡ true
   pub makes : call_in load item ≡ event ∷ []
 
--- of whatever packets the journal's stream is read as: each context that they name is true
+-- of whatever entries the journal's stream is read as: each context that they name is true
 abbrev pub TellsContexts : Load → List Item → Type 0
 TellsContexts load items =
-    (packets : List Packet) (end : End) → Reads (stream_of load items) packets end →
-    AreContextsTrue load items (timed packets)
+    (entries : List (Entry Packet)) (end : End) → Reads (stream_of load items) entries end →
+    AreContextsTrue load items (timed (packets_of entries))
 
 -- and a stored call comes after the events that were sent before it; the class that it has by them
 -- is the one by all calls before it, or it is unknown
 abbrev pub TellsClasses : Load → List Item → Type 0
 TellsClasses load items =
-    (packets : List Packet) (end : End) → Reads (stream_of load items) packets end →
+    (entries : List (Entry Packet)) (end : End) → Reads (stream_of load items) entries end →
     (before : List Item) (event : TimedEvent) → IsStoredCall load items before event →
-    (more : List TimedEvent) × (timed packets ≡ sent_events load before ++ event ∷ more) ×
+    (more : List TimedEvent)
+    × (timed (packets_of entries) ≡ sent_events load before ++ event ∷ more) ×
     ((class : Class) → class_of (sent_events load before) event ≡ Some class →
     class ≢ UnknownClass → class_of (all_calls load before) event ≡ Some class)
 
@@ -97,9 +100,9 @@ TellsClasses load items =
 -- before that call
 abbrev pub TellsStarts : Load → List Item → Type 0
 TellsStarts load items =
-    (packets : List Packet) (end : End) → Reads (stream_of load items) packets end →
+    (entries : List (Entry Packet)) (end : End) → Reads (stream_of load items) entries end →
     (front more : List TimedEvent) (event : TimedEvent) (task : ℕ) →
-    timed packets ≡ front ++ event ∷ more → started_task event.event ≡ Some task →
+    timed (packets_of entries) ≡ front ++ event ∷ more → started_task event.event ≡ Some task →
     (before : List Item) × IsStoredCall load items before event ×
     (front ≡ sent_events load before)
 

@@ -5,7 +5,7 @@ use Rattle.std.specs.Prelude.{is_ok, is_err, OnOk}
 use Rattle.std.specs.Io.KnownBytes.{Consumes, IsAtEnd}
 use Rattle.std.proofs.lemmas.List.{length-take}
 use Rattle.sv_prim.specs.Text.{AreBytes}
-use Rattle.sv_packet.specs.declared.event.TimedEvent.{TimedEvent}
+use Rattle.sv_stream.specs.declared.seen.Seen.{Seen}
 use Rattle.sv_stream.specs.Decoding.{Decoding, StandsFor, pushed}
 use Rattle.sv_view.specs.Scan.{IsFed}
 
@@ -24,13 +24,12 @@ pub fed_by : (left_before left : Option (List ℕ)) (old new : Decoding) (total 
     → piece ≡ take count buf → AreBytes piece → count ≤ length buf → total + count ≤ 2 ^ 33
     → Consumes left_before left (take count buf) → {T E : Type 0} (pushing : Result T E) → is_ok
     pushing ≡ true
-    → OnOk pushing ((input : List ℕ) → (given : List TimedEvent) → StandsFor old input given →
+    → OnOk pushing ((input : List ℕ) → (given : List Seen) → StandsFor old input given →
     StandsFor new (input ++ piece) given)
-    → OnOk pushing (pushed new ≡ pushed old + length piece) → OnOk pushing
-    (length new.held ≤ length old.held + length piece)
+    → OnOk pushing (pushed new ≡ pushed old + length piece)
     → (count < length buf → IsAtEnd left) → IsFed left_before left old new total count buf
 fed_by left_before left old new total count buf piece front bytes few within read pushing ok stands
-    more held ended =
+    more ended =
     let long : length piece ≡ count = omega (arith, ap length front, length-take count buf, few) in
     record {
       few = few;
@@ -40,6 +39,5 @@ fed_by left_before left old new total count buf piece front bytes few within rea
       stands = λ input given s. subst (λ (p : List ℕ). StandsFor new (input ++ p) given) front
           (on_ok pushing ok stands input given s);
       pushed_more = omega (arith, on_ok pushing ok more, long);
-      held = omega (arith, on_ok pushing ok held, long);
       ended = ended;
     }

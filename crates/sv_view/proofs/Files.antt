@@ -3,9 +3,8 @@ use Rattle.std.proofs.Common.{◌≡◌, ℕ, List, Option, Result, Ok, Err, inl
 use Rattle.std.specs.Prelude.{◌⊎◌}
 use Rattle.std.specs.Io.KnownBytes.{IsAtEnd}
 use Rattle.sv_base.specs.Streams.{AppendsPart}
-use Rattle.sv_packet.specs.Time.{timed}
 use Rattle.sv_stream.specs.declared.end.End.{End}
-use Rattle.sv_stream.specs.Decoding.{IsDamaged}
+use Rattle.sv_stream.specs.Entries.{timed_entries}
 use Rattle.sv_view.specs.declared.cut.Cut.{Cut}
 use Rattle.sv_view.specs.declared.cut.Cut.TheVariants as cuts
 use Rattle.sv_view.specs.Answer.{IsAllShown, IsPart, IsAnswer, IsShown}
@@ -17,34 +16,31 @@ use Rattle.sv_view.proofs.Shared.{of_taken}
 -- an answer stands, whatever says that no bytes are left
 module _ (text : Text) (taken : List ℕ) (all every : Type 0) (old new : Option (List ℕ))
     (then : all → every) where
-  through : (end : End) → all ⊎ IsDamaged end → every ⊎ IsDamaged end
-  through end (inl a) = inl (then a)
-  through end (inr damaged) = inr damaged
-
-  whole : (end : End) → IsAllShown text taken all end old new → IsAllShown text taken every end old new
-  whole end w = record {
-    packets = w.packets;
+  whole : (told : End) → IsAllShown text taken all told old new → IsAllShown text taken every told old new
+  whole told w = record {
+    entries = w.entries;
+    end = w.end;
     reads = w.reads;
-    through = through end w.through;
+    through = then w.through;
     short = w.short;
     written = w.written;
+    told_is = w.told_is;
   }
 
   part : IsPart text taken all old new → IsPart text taken every old new
-  part p = record { packets = p.packets; end = p.end; reads = p.reads; part = by p.part }
+  part p = record { entries = p.entries; end = p.end; reads = p.reads; part = by p.part }
     where
-      by : AppendsPart old new (lines_of text (timed p.packets)) ⊎
-          ((all ⊎ IsDamaged p.end) × AppendsPart old new (whole_text text (timed p.packets) p.end))
-          → AppendsPart old new (lines_of text (timed p.packets)) ⊎
-          ((every ⊎ IsDamaged p.end) × AppendsPart old new
-          (whole_text text (timed p.packets) p.end))
+      by : AppendsPart old new (lines_of text (timed_entries p.entries)) ⊎
+          (all × AppendsPart old new (whole_text text (timed_entries p.entries) p.end))
+          → AppendsPart old new (lines_of text (timed_entries p.entries)) ⊎
+          (every × AppendsPart old new (whole_text text (timed_entries p.entries) p.end))
       by (inl lines) = inl lines
-      by (inr (is, last)) = inr (through p.end is, last)
+      by (inr (is, last)) = inr (then is, last)
 
   answer_then : (front : List ℕ) (result : Result End Cut)
       → IsAnswer text taken front all old new result
       → IsAnswer text taken front every old new result
-  answer_then front (Ok end) a = whole end a
+  answer_then front (Ok told) a = whole told a
   answer_then front (Err cuts.Unread) a = a
   answer_then front (Err cuts.TooLong) a = a
   answer_then front (Err cuts.Unwritten) a = part a

@@ -9,3 +9,4 @@ pub mod Ended
 pub mod Files
 pub mod Timelines
 pub mod Lives
+pub mod Verdicts

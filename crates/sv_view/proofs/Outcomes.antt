@@ -5,9 +5,9 @@ use Rattle.std.specs.Io.KnownBytes.{Consumes, IsAtEnd}
 use Rattle.sv_prim.specs.Text.{AreBytes}
 use Rattle.sv_base.specs.Streams.{AppendsPart}
 use Rattle.sv_packet.specs.declared.event.Packet.{Packet}
-use Rattle.sv_packet.specs.Time.{timed}
 use Rattle.sv_stream.specs.declared.end.End.{End}
-use Rattle.sv_stream.specs.Decoding.{IsDamaged}
+use Rattle.sv_stream.specs.Entries.{timed_entries}
+use Rattle.sv_stream.specs.Input.{Entry}
 use Rattle.sv_stream.specs.Reads.{Reads}
 use Rattle.sv_stream.proofs.Shared.{reading}
 use Rattle.sv_view.specs.declared.cut.Cut.{Cut}
@@ -30,10 +30,10 @@ module _ {text : Text} {left0 left out0 out : Option (List ℕ)} where
 -- a part is written, whatever the bytes decode to
 pub in_part : {text : Text} {all : Type 0} {old new : Option (List ℕ)} (taken : List ℕ)
     → AreBytes taken
-    → ((packets : List Packet) (end : End) → Reads taken packets end
-    → AppendsPart old new (lines_of text (timed packets))
-    ⊎ ((all ⊎ IsDamaged end) × AppendsPart old new (whole_text text (timed packets) end)))
+    → ((entries : List (Entry Packet)) (end : End) → Reads taken entries end
+    → AppendsPart old new (lines_of text (timed_entries entries))
+    ⊎ (all × AppendsPart old new (whole_text text (timed_entries entries) end)))
     → IsPart text taken all old new
 in_part taken bytes part =
     let r = reading taken bytes in
-    record { packets = r.0; end = r.1; reads = r.2; part = part r.0 r.1 r.2 }
+    record { entries = r.0; end = r.1; reads = r.2; part = part r.0 r.1 r.2 }

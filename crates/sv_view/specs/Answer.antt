@@ -1,13 +1,17 @@
 -- What a view of a recording answers: its text of the bytes that were read, as far as that is
 -- written. A recording is read in pieces, each of which is filled up but for the last one.
-use Rattle.std.specs.Prelude.{◌≡◌, ℕ, ◌+◌, ◌*◌, ◌^◌, ◌<◌, ◌≤◌, ◌⊎◌, List, ◌++◌, length, Option}
+use Rattle.std.specs.Prelude.{◌≡◌, ℕ, ◌+◌, ◌*◌, ◌^◌, ◌<◌, ◌≤◌, ◌⊎◌, List, [], ◌∷◌, ◌++◌}
+use Rattle.std.specs.Prelude.{length, Option, Some, None}
 use Rattle.std.specs.Prelude.{Result, Ok, Err}
 use Rattle.std.specs.Io.KnownBytes.{Appends}
 use Rattle.sv_base.specs.Streams.{AppendsPart}
 use Rattle.sv_packet.specs.declared.event.Packet.{Packet}
-use Rattle.sv_packet.specs.Time.{timed}
 use Rattle.sv_stream.specs.declared.end.End.{End}
-use Rattle.sv_stream.specs.Decoding.{IsDamaged}
+use Rattle.sv_stream.specs.declared.end.End.TheVariants.{Damaged}
+use Rattle.sv_stream.specs.declared.seen.Seen.{Seen}
+use Rattle.sv_stream.specs.declared.seen.Seen.TheVariants.{Event, Damage}
+use Rattle.sv_stream.specs.Entries.{timed_entries}
+use Rattle.sv_stream.specs.Input.{Entry}
 use Rattle.sv_stream.specs.Reads.{Reads}
 use Rattle.sv_view.specs.declared.cut.Cut.{Cut}
 use Rattle.sv_view.specs.declared.cut.Cut.TheVariants.{Unread, TooLong, Unwritten, NoMemory}
@@ -21,12 +25,19 @@ piece_size = 4096
 abbrev pub most_bytes : ℕ
 most_bytes = 2 ^ 33
 
--- the bytes are not damaged
-abbrev pub IsSound : List ℕ → Type 0
-IsSound bytes = (packets : List Packet) (end : End) → Reads bytes packets end → IsDamaged end → ⊥
+-- how a recording with these entries ends, as is told: its first damaged place, where it has one,
+-- or else its end
+abbrev pub verdict : List Seen → End → End
+verdict [] end = end
+verdict (Event event ∷ seen) end = verdict seen end
+verdict (Damage time place reason ∷ seen) end = Damaged place reason
 
--- the bytes that were taken: a front of whole pieces that is not damaged, and at most one piece
--- more
+-- the damage that was found first, or else this end
+abbrev pub or_end : Option End → End → End
+or_end (Some damage) end = damage
+or_end None end = end
+
+-- the bytes that were taken: a front of whole pieces, and at most one piece more
 pub record IsIntake (taken front : List ℕ) : Type 0 where
   pub piece : List ℕ
   pub taken_is : taken ≡ front ++ piece
@@ -34,39 +45,42 @@ pub record IsIntake (taken front : List ℕ) : Type 0 where
   pub front_is : length front ≡ pieces * piece_size
   pub one : length piece ≤ piece_size
   pub short : length front ≤ most_bytes
-  pub sound : IsSound front
 
--- all of the text is written of the bytes that were taken: they are all there are, or damaged
-pub record IsAllShown (text : Text) (taken : List ℕ) (all : Type 0) (end : End)
+-- all of the text is written of the bytes that were taken, which are all there are; what is told is
+-- the first damage, or how they end
+pub record IsAllShown (text : Text) (taken : List ℕ) (all : Type 0) (told : End)
     (old new : Option (List ℕ)) : Type 0 where
-  pub packets : List Packet
-  pub reads : Reads taken packets end
-  pub through : all ⊎ IsDamaged end
-  pub short : length taken ≤ most_bytes
-  pub written : Appends old new (whole_text text (timed packets) end)
-
--- exactly the lines of the front's events are written
-pub record IsCutOff (text : Text) (front : List ℕ) (old new : Option (List ℕ)) : Type 0 where
-  pub packets : List Packet
+  pub entries : List (Entry Packet)
   pub end : End
-  pub reads : Reads front packets end
-  pub written : Appends old new (lines_of text (timed packets))
+  pub reads : Reads taken entries end
+  pub through : all
+  pub short : length taken ≤ most_bytes
+  pub written : Appends old new (whole_text text (timed_entries entries) end)
+  pub told_is : told ≡ verdict (timed_entries entries) end
+
+-- exactly the lines of the front's entries are written
+pub record IsCutOff (text : Text) (front : List ℕ) (old new : Option (List ℕ)) : Type 0 where
+  pub entries : List (Entry Packet)
+  pub end : End
+  pub reads : Reads front entries end
+  pub written : Appends old new (lines_of text (timed_entries entries))
 
 -- a part of the lines of the bytes that were taken is written, or a part of their whole text where
--- they are all there are, or damaged
+-- they are all there are
 pub record IsPart (text : Text) (taken : List ℕ) (all : Type 0)
     (old new : Option (List ℕ)) : Type 0 where
-  pub packets : List Packet
+  pub entries : List (Entry Packet)
   pub end : End
-  pub reads : Reads taken packets end
+  pub reads : Reads taken entries end
   pub part :
-      AppendsPart old new (lines_of text (timed packets))
-      ⊎ ((all ⊎ IsDamaged end) × AppendsPart old new (whole_text text (timed packets) end))
+      AppendsPart old new (lines_of text (timed_entries entries))
+      ⊎ (all × AppendsPart old new (whole_text text (timed_entries entries) end))
 
--- the answer over the bytes that were taken and their front: how they end, or why they were cut
+-- the answer over the bytes that were taken and their front: what is told of them, or why they were
+-- cut
 abbrev pub IsAnswer : Text → List ℕ → List ℕ → Type 0 → Option (List ℕ) → Option (List ℕ)
     → Result End Cut → Type 0
-IsAnswer text taken front all old new (Ok end) = IsAllShown text taken all end old new
+IsAnswer text taken front all old new (Ok told) = IsAllShown text taken all told old new
 IsAnswer text taken front all old new (Err Unread) =
     (length taken < length front + piece_size) × IsCutOff text front old new
 IsAnswer text taken front all old new (Err TooLong) =

@@ -1,34 +1,39 @@
 -- What `live` answers: a report of the bytes so far after each piece of some size, and after a last
 -- one that is shorter.
-use Rattle.std.specs.Prelude.{◌≡◌, ℕ, zero, suc, ◌+◌, ◌*◌, ◌<◌, ◌≤◌, ◌⊎◌, false, List, [], ◌∷◌}
+use Rattle.std.specs.Prelude.{◌≡◌, ℕ, zero, suc, ◌+◌, ◌*◌, ◌<◌, ◌≤◌, false, List, [], ◌∷◌}
 use Rattle.std.specs.Prelude.{◌++◌, length, take, Option, Result, Ok, Err, codes}
 use Rattle.std.specs.Io.KnownBytes.{Appends, Consumes, IsAtEnd}
 use Rattle.sv_prim.specs.Text.{AreBytes}
 use Rattle.sv_base.specs.Streams.{AppendsPart}
 use Rattle.sv_packet.specs.declared.event.Packet.{Packet}
 use Rattle.sv_stream.specs.declared.end.End.{End}
-use Rattle.sv_stream.specs.Decoding.{IsDamaged, pushed}
+use Rattle.sv_stream.specs.declared.seen.Seen.{Seen}
+use Rattle.sv_stream.specs.Decoding.{IsSettled, StandsFor, pushed}
+use Rattle.sv_stream.specs.Entries.{timed_entries}
+use Rattle.sv_stream.specs.Input.{Entry}
 use Rattle.sv_stream.specs.Reads.{Reads}
 use Rattle.sv_timeline.specs.declared.span.Span.{Span}
 use Rattle.sv_analyse.specs.Report.{report_of}
-use Rattle.sv_analyse.specs.State.{StandsFor}
+use Rattle.sv_analyse.specs.State.{AnalysisStandsFor}
 use Rattle.sv_report.specs.ReportText.{count_line, text_of}
-use Rattle.sv_view.specs.declared.live.Live.{Live}
 use Rattle.sv_view.specs.declared.cut.Cut.{Cut}
 use Rattle.sv_view.specs.declared.cut.Cut.TheVariants as cuts
-use Rattle.sv_view.specs.Answer.{most_bytes, IsSound}
+use Rattle.sv_view.specs.declared.scan.Scan.{Scan}
+use Rattle.sv_view.specs.declared.views.report.Summary.{Summary}
+use Rattle.sv_view.specs.Answer.{most_bytes, verdict}
+use Rattle.sv_view.specs.Scan.{HasShown}
 
--- the line of how many bytes there are, and the report of bytes with these packets and this end
-abbrev pub after_text : ℕ → List Packet → End → List ℕ
-after_text count packets end =
-    count_line (codes "after ") count ++ text_of (report_of packets end)
+-- the line of how many bytes there are, and the report of bytes with these entries and this end
+abbrev pub after_text : ℕ → List (Entry Packet) → End → List ℕ
+after_text count entries end =
+    count_line (codes "after ") count ++ text_of (report_of entries end)
 
 -- the same of these bytes
 pub record IsReportSoFar (bytes text : List ℕ) : Type 0 where
-  pub packets : List Packet
+  pub entries : List (Entry Packet)
   pub end : End
-  pub reads : Reads bytes packets end
-  pub text_is : text ≡ after_text (length bytes) packets end
+  pub reads : Reads bytes entries end
+  pub text_is : text ≡ after_text (length bytes) entries end
 
 -- the reports after so many pieces of this size, of which the last may be shorter
 abbrev pub AreReports : ℕ → List ℕ → ℕ → List ℕ → Type 0
@@ -43,16 +48,19 @@ abbrev pub pieces_with : ℕ → List ℕ → ℕ
 pieces_with whole [] = whole
 pieces_with whole (byte ∷ bytes) = suc whole
 
--- all reports of the bytes that were taken are written: they are all there are, or damaged
-pub record IsTold (size : ℕ) (taken : List ℕ) (pieces : ℕ) (all : Type 0) (end : End)
+-- all reports of the bytes that were taken, which are all there are, are written; what is told is
+-- the first damage, or how they end
+pub record IsTold (size : ℕ) (taken : List ℕ) (pieces : ℕ) (all : Type 0) (told : End)
     (old new : Option (List ℕ)) : Type 0 where
-  pub packets : List Packet
-  pub reads : Reads taken packets end
-  pub through : all ⊎ IsDamaged end
+  pub entries : List (Entry Packet)
+  pub end : End
+  pub reads : Reads taken entries end
+  pub through : all
   pub short : length taken ≤ most_bytes
   pub text : List ℕ
   pub reports : AreReports size taken pieces text
   pub written : Appends old new text
+  pub told_is : told ≡ verdict (timed_entries entries) end
 
 -- exactly the reports of the whole pieces before the last one are written
 pub record IsToldBefore (size : ℕ) (front : List ℕ) (whole : ℕ) (old new : Option (List ℕ)) : Type
@@ -68,12 +76,12 @@ pub record IsToldPart (size : ℕ) (taken : List ℕ) (pieces : ℕ) (old new : 
     pub reports : AreReports size taken pieces text
     pub part : AppendsPart old new text
 
--- the answer over the bytes that were taken, of which so many whole pieces are their front: how
--- they end, or why they were cut
+-- the answer over the bytes that were taken, of which so many whole pieces are their front: what is
+-- told of them, or why they were cut
 abbrev pub IsLiveAnswer : ℕ → List ℕ → List ℕ → ℕ → ℕ → Type 0 → Option (List ℕ)
     → Option (List ℕ) → Result End Cut → Type 0
-IsLiveAnswer size taken front whole pieces all old new (Ok end) =
-    IsTold size taken pieces all end old new
+IsLiveAnswer size taken front whole pieces all old new (Ok told) =
+    IsTold size taken pieces all told old new
 IsLiveAnswer size taken front whole pieces all old new (Err cuts.Unread) =
     (length taken < length front + size) × IsToldBefore size front whole old new
 IsLiveAnswer size taken front whole pieces all old new (Err cuts.TooLong) =
@@ -83,8 +91,8 @@ IsLiveAnswer size taken front whole pieces all old new (Err cuts.Unwritten) =
 IsLiveAnswer size taken front whole pieces all old new (Err cuts.NoMemory) =
     IsToldPart size taken pieces old new
 
--- the same: the front is whole pieces and not damaged, and at most one piece more was taken; `all`
--- says that no bytes are left
+-- the same: the front is whole pieces, and at most one piece more was taken; `all` says that no
+-- bytes are left
 pub record IsToldLive (size : ℕ) (taken : List ℕ) (all : Type 0) (old new : Option (List ℕ))
     (result : Result End Cut) : Type 0 where
   pub front : List ℕ
@@ -94,39 +102,30 @@ pub record IsToldLive (size : ℕ) (taken : List ℕ) (all : Type 0) (old new : 
   pub front_is : length front ≡ whole * size
   pub one : length piece ≤ size
   pub short : length front ≤ most_bytes
-  pub sound : IsSound front
   pub answer : IsLiveAnswer size taken front whole (pieces_with whole piece) all old new result
 
--- the next bytes of a file, and the analyser that took them
-pub record IsGrown (left_before left : Option (List ℕ)) (old new : Live) (count : ℕ)
-    (buf : List ℕ) : Type 0 where
-  pub few : count ≤ length buf
-  pub within : old.total + count ≤ most_bytes
-  pub bytes : AreBytes (take count buf)
-  pub read : Consumes left_before left (take count buf)
-  pub stands : (input : List ℕ) (given : List Span) → StandsFor old.analyser input given
-      → (more : List Span) × StandsFor new.analyser (input ++ take count buf) (given ++ more)
-  pub ready : new.analyser.analysis.failed ≡ false
-  pub pushed_is : pushed new.analyser.decoder ≡ new.total
-  pub total_is : new.total ≡ old.total + count
-  pub ended : count < length buf → IsAtEnd left
+-- the view of reports was shown these entries
+abbrev pub HasSummed : Summary → List Seen → Type 0
+HasSummed view seen =
+    (view.analysis.failed ≡ false) × ((given : List Span) × AnalysisStandsFor view.analysis seen given)
 
--- between two pieces: the bytes so far are whole pieces and not damaged, and their reports are
--- written
+-- between two pieces: the bytes so far are whole pieces, and their reports are written
 pub record IsBetweenReports (size : ℕ) (left_before left out_before out : Option (List ℕ))
-    (live : Live) : Type 0 where
+    (scan : Scan Summary) : Type 0 where
   pub input : List ℕ
-  pub given : List Span
-  pub stands : StandsFor live.analyser input given
-  pub ready : live.analyser.analysis.failed ≡ false
-  pub pushed_is : pushed live.analyser.decoder ≡ live.total
-  pub total_is : live.total ≡ length input
-  pub within : live.total ≤ most_bytes
+  pub given : List Seen
+  pub stands : StandsFor scan.decoder input given
+  pub settled : IsSettled scan.decoder
+  pub all : (entries : List (Entry Packet)) (end : End) → Reads input entries end →
+      given ≡ timed_entries entries
   pub bytes : AreBytes input
   pub read : Consumes left_before left input
+  pub viewed : HasShown HasSummed scan.showing given
+  pub total_is : scan.total ≡ length input
+  pub pushed_is : pushed scan.decoder ≡ scan.total
+  pub within : scan.total ≤ most_bytes
   pub whole : ℕ
   pub pieces : length input ≡ whole * size
-  pub sound : IsSound input
   pub text : List ℕ
   pub reports : AreReports size input whole text
   pub written : Appends out_before out text
@@ -137,12 +136,3 @@ pub record IsLiveEnd (size : ℕ) (left_before left out_before out : Option (Lis
   pub taken : List ℕ
   pub read : Consumes left_before left taken
   pub shown : IsToldLive size taken (IsAtEnd left) out_before out result
-
--- why no report was written of these bytes
-abbrev pub IsUntold : List ℕ → ℕ → Option (List ℕ) → Option (List ℕ) → Cut → Type 0
-IsUntold input total old new cuts.Unwritten =
-    (packets : List Packet) (end : End) → Reads input packets end →
-    AppendsPart old new (after_text total packets end)
-IsUntold input total old new cuts.NoMemory = new ≡ old
-IsUntold input total old new cuts.Unread = ⊥
-IsUntold input total old new cuts.TooLong = ⊥

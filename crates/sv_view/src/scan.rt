@@ -1,25 +1,27 @@
 //! The one loop over a file of all views: pieces of a recording's file go through a decoder, and what a view
-//! makes of the events is written.
-ghost use Rattle.std.specs.Prelude.{◌≡◌, ◌≢◌, ◌+◌, ◌*◌, ◌<◌, ◌≤◌, ◌^◌, ◌⊎◌, ◌∷◌, ◌++◌, []};
+//! makes of the entries is written.
+ghost use Rattle.std.specs.Prelude.{◌≡◌, ◌≢◌, ◌+◌, ◌*◌, ◌<◌, ◌≤◌, ◌^◌, ◌∷◌, ◌++◌, []};
 ghost use Rattle.std.specs.Prelude.{List, ℕ, Option, true, false, IsTrue, Err, Ok, IsErr, nat_le, length};
 ghost use Rattle.std.specs.Prelude.{take, IfOk, IfErr, OnOk};
+ghost use Rattle.std.specs.Io.KnownBytes.{IsAtEnd};
 ghost use Rattle.sv_prim.specs.Text.{AreBytes};
-ghost use Rattle.sv_stream.specs.Decoding.{IsSettled, pushed};
+ghost use Rattle.sv_stream.specs.declared.seen.Seen.{Seen};
+ghost use Rattle.sv_stream.specs.Decoding.{IsSettled, StandsFor, pushed};
 ghost use Rattle.sv_base.specs.Causes.{Blames, BlamesLast, one_more};
 ghost use Rattle.sv_view.specs.Answer.{piece_size, IsShown};
 ghost use Rattle.sv_view.specs.Files.{IsReadFrom, OfFile};
-ghost use Rattle.sv_view.specs.Scan.{IsFed, IsUnfed, IsScanned, IsBetween};
-ghost use Rattle.sv_view.specs.Scan.{IsEnough, IsScanEnd};
+ghost use Rattle.sv_view.specs.Scan.{HasShown, IsFed, IsUnfed, IsTaken, IsScanned, IsBetween};
+ghost use Rattle.sv_view.specs.Scan.{IsScanEnd, IsToldOf};
 
 use crate::cut::Cut;
-use crate::showing::Showing;
+use crate::showing::{Showing, told};
 use crate::view::View;
 use std::alloc::Global;
 use sv_base::{Failed, Sink, Source, fill, put_all};
-use sv_feed::drain_events;
+use sv_feed::drain_entries;
 use sv_stream::{Decoder, End};
 
-/// How many bytes are read at a time. What is written of their events is written at once.
+/// How many bytes are read at a time. What is written of their entries is written at once.
 const PIECE: usize = 4096;
 
 /// The most bytes of a recording, so that its times stay below 2^64.
@@ -36,7 +38,7 @@ pub struct Scan<V: View + Drop> {
 }
 
 /// The bytes that came into a buffer.
-pub fn piece_of(buf: &[u8], count: usize) -> &[u8]
+fn piece_of(buf: &[u8], count: usize) -> &[u8]
     requires { count ≤ length buf.now }
     ensures front { result.now ≡ take count buf.now }
     ensures bytes { AreBytes result.now }
@@ -45,7 +47,8 @@ pub fn piece_of(buf: &[u8], count: usize) -> &[u8]
 }
 
 /// Fills the buffer from the file and pushes that to the decoder, or says why not. `total` bytes
-/// were pushed before. Says how many bytes came: fewer than a piece only at the end.
+/// were pushed before. Says how many bytes came: fewer than the buffer has room for only at the
+/// end.
 fn feed<S: Source>(
     src: &mut S,
     decoder: &mut Decoder,
@@ -53,13 +56,14 @@ fn feed<S: Source>(
     buf: &mut [u8],
 ) -> Result<usize, Cut>
     requires open { IsTrue (S.opened src.old) }
-    requires room { length buf.old ≡ piece_size }
+    requires room { 0 < length buf.old }
     requires total { (pushed decoder.old ≡ total) × (total ≤ 2 ^ 33) }
-    ensures same { length buf.new ≡ piece_size }
+    ensures same { length buf.new ≡ length buf.old }
     ensures fed { IfOk result (λ count.
         IsFed (S.left src.old) (S.left src.new) decoder.old decoder.new total count buf.new) }
-    ensures opened { IfOk result (λ count. S.opened src.new ≡ nat_le piece_size count) }
-    ensures unfed { IfErr result (IsUnfed piece_size (S.left src.old) (S.left src.new) total) }
+    ensures opened { IfOk result (λ count. S.opened src.new ≡ nat_le (length buf.old) count) }
+    ensures unfed { IfErr result
+        (IsUnfed (length buf.old) (S.left src.old) (S.left src.new) total) }
     ensures source { IsReadFrom (result ≡ Err Cut.Unread) (S.begins src.old) (S.begins src.new)
         (S.safe src.old) (S.safe src.new) (S.faults src.old) (S.faults src.new) }
 {
@@ -78,28 +82,71 @@ fn feed<S: Source>(
 }
 
 /// Whether there is nothing more to read after a piece of so many bytes.
-fn is_over(damaged: bool, count: usize, room: usize) -> bool
-    ensures yes { result ≡ true → (damaged ≡ true) ⊎ (count < room) }
-    ensures no { result ≡ false → (damaged ≡ false) × (room ≤ count) }
+fn is_over(count: usize, room: usize) -> bool
+    ensures yes { result ≡ true → count < room }
+    ensures no { result ≡ false → room ≤ count }
 {
-    damaged || count < room
+    count < room
 }
 
 impl<V: View + Drop> Scan<V> {
-    fn new(alloc: Global, view: V) -> Scan<V>
+    pub fn new(alloc: Global, view: V) -> Scan<V>
         requires { V.shown view [] }
-        ensures { (left out : Option (List ℕ)) → IsBetween V.text V.shown left left out out result }
+        ensures between { (left out : Option (List ℕ)) →
+            IsBetween V.text V.shown left left out out result }
+        ensures stands { StandsFor result.decoder [] [] }
+        ensures settled { IsSettled result.decoder }
+        ensures shown { HasShown V.shown result.showing [] }
+        ensures total { result.total ≡ 0 }
     {
         Scan {
             decoder: Decoder::new(alloc),
-            showing: Showing { view },
+            showing: Showing { view, first: None },
             lines: Vec::new(alloc),
             total: 0,
         }
     }
 
-    /// Reads the next piece and writes what is made of its events. Says whether there is no more to
-    /// read: the recording has ended, or is damaged.
+    /// Reads the next piece, as much as the buffer has room for, and shows its entries to the view,
+    /// which appends to the lines. Says how many bytes came: fewer than there is room for only at
+    /// the end.
+    pub fn take<S: Source>(&mut self, src: &mut S, buf: &mut [u8]) -> Result<usize, Cut>
+        requires open { IsTrue (S.opened src.old) }
+        requires room { 0 < length buf.old }
+        requires total { (pushed self.old.decoder ≡ self.old.total) × (self.old.total ≤ 2 ^ 33) }
+        requires shown { (input : List ℕ) × (given : List Seen)
+            × StandsFor self.old.decoder input given × HasShown V.shown self.old.showing given }
+        ensures same { length buf.new ≡ length buf.old }
+        ensures taken { IfOk result (λ count. IsTaken V.text V.shown
+            (S.left src.old) (S.left src.new) self.old self.new count buf.new) }
+        ensures opened { IfOk result (λ count. S.opened src.new ≡ nat_le (length buf.old) count) }
+        ensures untaken { IfErr result
+            (IsUnfed (length buf.old) (S.left src.old) (S.left src.new) self.old.total) }
+        ensures source { IsReadFrom (result ≡ Err Cut.Unread) (S.begins src.old) (S.begins src.new)
+            (S.safe src.old) (S.safe src.new) (S.faults src.old) (S.faults src.new) }
+    {
+        let count = match feed(src, &mut self.decoder, self.total, buf) {
+            Ok(count) => count,
+            Err(cut) => return Err(cut),
+        };
+        self.total += count as u64;
+        let Ok(()) = drain_entries(&mut self.decoder, &mut self.showing, &mut self.lines) else {
+            return Err(Cut::NoMemory);
+        };
+        Ok(count)
+    }
+
+    /// How the recording ends, as is told: its first damaged place, or else its end.
+    pub fn told(&self) -> End
+        requires { IsSettled self.now.decoder }
+        ensures { (input : List ℕ) (given : List Seen) → StandsFor self.now.decoder input given →
+            HasShown V.shown self.now.showing given → IsToldOf input result }
+    {
+        told(self.showing.first, self.decoder.finish())
+    }
+
+    /// Reads the next piece and writes what is made of its entries. Says whether the recording has
+    /// ended.
     fn piece<S: Source, K: Sink>(
         &mut self,
         src: &mut S,
@@ -113,9 +160,8 @@ impl<V: View + Drop> Scan<V> {
         ensures same { length buf.new ≡ piece_size }
         ensures over { IfOk result (λ over. (left written : Option (List ℕ)) →
             IsBetween V.text V.shown left (S.left src.old) written (K.written out.old) self.old →
-            (now : IsScanned V.text V.shown
-            left (S.left src.new) written (K.written out.new) self.new)
-            × (over ≡ true → IsEnough (S.left src.new) now.input)
+            IsScanned V.text V.shown left (S.left src.new) written (K.written out.new) self.new
+            × (over ≡ true → IsAtEnd (S.left src.new))
             × (over ≡ false →
             IsBetween V.text V.shown left (S.left src.new) written (K.written out.new) self.new)) }
         ensures more { IfOk result (λ over. over ≡ false →
@@ -128,28 +174,23 @@ impl<V: View + Drop> Scan<V> {
         ensures sink { BlamesLast (result ≡ Err Cut.Unwritten)
             (K.broken out.new) (K.faults out.old) (K.faults out.new) }
     {
-        let count = match feed(src, &mut self.decoder, self.total, buf) {
+        let count = match self.take(src, buf) {
             Ok(count) => count,
             Err(cut) => return Err(cut),
-        };
-        self.total += count as u64;
-        let Ok(damaged) = drain_events(&mut self.decoder, &mut self.showing, &mut self.lines) else {
-            return Err(Cut::NoMemory);
         };
         let Ok(()) = put_all(out, &self.lines) else {
             return Err(Cut::Unwritten);
         };
         self.lines.clear();
-        Ok(is_over(damaged, count, PIECE))
+        Ok(is_over(count, PIECE))
     }
 
-    /// Writes what is made of the end, and says how the recording ends.
+    /// Writes what is made of the end, and says how the recording ends, as is told.
     fn end<K: Sink>(&mut self, out: &mut K) -> Result<End, Cut>
         requires settled { IsSettled self.old.decoder }
         ensures ended { (left now written : Option (List ℕ)) →
-            (scanned : IsScanned V.text V.shown left now written (K.written out.old) self.old) →
-            IsEnough now scanned.input →
-            IsScanEnd V.text left now written (K.written out.new) result }
+            IsScanned V.text V.shown left now written (K.written out.old) self.old →
+            IsAtEnd now → IsScanEnd V.text left now written (K.written out.new) result }
         ensures read { result ≢ Err Cut.Unread }
         ensures sink { BlamesLast (result ≡ Err Cut.Unwritten)
             (K.broken out.new) (K.faults out.old) (K.faults out.new) }
@@ -161,12 +202,11 @@ impl<V: View + Drop> Scan<V> {
         let Ok(()) = put_all(out, &self.lines) else {
             return Err(Cut::Unwritten);
         };
-        Ok(end)
+        Ok(told(self.showing.first, end))
     }
 }
 
-/// Scans the file that is begun, and says how it ends. Nothing of it is read after a piece that is
-/// damaged.
+/// Scans the file that is begun, and says how it ends, as is told.
 fn scan_open<S: Source, K: Sink, V: View + Drop>(
     alloc: Global,
     view: V,
@@ -193,9 +233,10 @@ fn scan_open<S: Source, K: Sink, V: View + Drop>(
     }
 }
 
-/// Scans the recording of the name, which is read from `src` in pieces of 4096 bytes: writes what
-/// the view makes of each event, those of a piece at once, and of the end. Says how the recording
-/// ends. Nothing is read after a piece that is damaged, and no more than 2^33 bytes are taken.
+/// Scans the recording of the name, which is read from `src` in pieces of 4096 bytes to its end:
+/// writes what the view makes of each event and each damaged place, those of a piece at once, and
+/// of the end. Says how the recording ends: where it has damaged places, at the first of them. No
+/// more than 2^33 bytes are taken.
 pub fn scan_file<S: Source, K: Sink, V: View + Drop>(
     alloc: Global,
     view: V,

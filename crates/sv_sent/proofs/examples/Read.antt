@@ -1,6 +1,6 @@
 -- What streams of journals worked out by hand are read as.
 use Rattle.std.proofs.Common.{◌≡◌, ℕ, ◌≤◌, true, false, List, [], ◌∷◌, refl, ap, arith, rules, inl}
-use Rattle.std.proofs.Common.{length}
+use Rattle.std.proofs.Common.{length, map}
 use Rattle.std.specs.Prelude.{All, slice_index_or}
 use Rattle.std.proofs.lemmas.List.Elements.{All-cons, All-nil}
 use Rattle.sv_prim.specs.Text.{AreBytes}
@@ -10,6 +10,7 @@ use Rattle.sv_packet.specs.declared.event.Packet.{Packet}
 use Rattle.sv_packet.specs.declared.event.TimedEvent.{TimedEvent}
 use Rattle.sv_packet.specs.Time.{timed}
 use Rattle.sv_stream.specs.declared.end.End.TheVariants.{Clean, NoSync}
+use Rattle.sv_stream.specs.Input.{Whole}
 use Rattle.sv_stream.specs.Reads.{Reads}
 use Rattle.sv_load.specs.declared.load.Step.{Step}
 use Rattle.sv_load.specs.declared.load.Task.{Task}
@@ -114,7 +115,9 @@ limits = record {
 }
 
 -- so by the law its stream is read to a clean end
-read : Reads (stream_of refused_load refused_items) (sent_packets refused_load refused_items) Clean
+read :
+    Reads (stream_of refused_load refused_items)
+    (map Whole (sent_packets refused_load refused_items)) Clean
 read = read_as refused_load refused_items refused_legal limits begun
 
 -- A MARK A WHOLE ROUND OF THE COUNTER LATER
@@ -157,5 +160,6 @@ idle_legal = search rules
 never_begun : has_start idle idle_items ≡ false
 never_begun = refl
 
-nothing_read : Reads (stream_of idle idle_items) (sent_packets idle idle_items) NoSync
+nothing_read :
+    Reads (stream_of idle idle_items) (map Whole (sent_packets idle idle_items)) NoSync
 nothing_read = inl (refl, refl, refl)

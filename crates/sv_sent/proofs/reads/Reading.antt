@@ -1,11 +1,12 @@
 -- What a journal's stream is read as: its first sync, then the packets of the stored items after
 -- it.
 use Rattle.std.proofs.Common.{◌≡◌, ◌≢◌, ℕ, ◌≤◌, true, false, Some, List, [], ◌++◌, refl, sym, subst}
-use Rattle.std.proofs.Common.{◌∙◌, arith, inl, inr}
+use Rattle.std.proofs.Common.{◌∙◌, arith, inl, inr, map}
 use Rattle.std.specs.Prelude.{replicate, slice_get}
 use Rattle.sv_packet.specs.declared.event.Packet.{Packet}
 use Rattle.sv_packet.specs.Packets.{ArePackets}
 use Rattle.sv_stream.specs.declared.end.End.TheVariants.{Clean}
+use Rattle.sv_stream.specs.Input.{Whole}
 use Rattle.sv_stream.specs.Reads.{Reads}
 use Rattle.sv_load.specs.Load.{Load}
 use Rattle.sv_journal.specs.declared.journal.Item.{Item}
@@ -24,7 +25,8 @@ use Rattle.sv_sent.proofs.reads.Stages.{HowFar}
 use Rattle.sv_sent.proofs.reads.Going.{how_far}
 
 read : (bytes body : List ℕ) (packets : List Packet) → bytes ≡ replicate 10 0 ++ body →
-    slice_get body 0 ≢ Some 0 → ArePackets packets body → Reads bytes packets Clean
+    slice_get body 0 ≢ Some 0 → ArePackets packets body →
+    Reads bytes (map Whole packets) Clean
 read bytes body packets whole first are = inr (
   10,
   body,
@@ -44,12 +46,12 @@ read bytes body packets whole first are = inr (
 -- a legal journal with a start: its stream is read as the packets of its stored items
 pub reads_sent : (load : Load) (items : List Item) → IsLegal load items → 64 ≤ load.ring →
     AreSpellable load items → has_start load items ≡ true →
-    Reads (stream_of load items) (sent_packets load items) Clean
+    Reads (stream_of load items) (map Whole (sent_packets load items)) Clean
 reads_sent load items legal ring spellable start =
     by (how_far load (latest_first items) ring (placed load items legal) spellable)
   where
     by : HowFar load (latest_first items) →
-        Reads (stream_of load items) (sent_packets load items) Clean
+        Reads (stream_of load items) (map Whole (sent_packets load items)) Clean
     by (inl w) =
         let last = w.starts (started_was load items ∙ start) in
         absurd (clash (is_start load last.0) last.2 (not_ending load items last.0 legal last.1))

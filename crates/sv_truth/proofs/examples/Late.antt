@@ -1,10 +1,11 @@
 -- Calls more than a round of the counter apart: the law does not hold, since the stream's times are
 -- not those of the calls.
-use Rattle.std.proofs.Common.{◌≡◌, List, [], ◌∷◌, refl, arith, rules}
+use Rattle.std.proofs.Common.{◌≡◌, List, [], ◌∷◌, refl, arith, rules, map}
 use Rattle.sv_packet.specs.declared.event.Event.TheVariants as events
 use Rattle.sv_packet.specs.declared.event.TimedEvent.{TimedEvent}
 use Rattle.sv_packet.specs.Time.{timed}
 use Rattle.sv_stream.specs.declared.end.End.TheVariants.{Clean}
+use Rattle.sv_stream.specs.Input.{Whole}
 use Rattle.sv_load.specs.declared.load.Step.{Step}
 use Rattle.sv_load.specs.Load.{Load}
 use Rattle.sv_load.specs.Need.{IsWithinLimits}
@@ -69,7 +70,8 @@ differs = (refl, refl)
 untrue : TellsContexts load items → ⊥
 untrue tells =
     let said : Isr 5 ≡ Task 1 =
-    tells (sent_packets load items) Clean (read_as load items legal within refl) 3 (omega arith)
+    tells (map Whole (sent_packets load items)) Clean (read_as load items legal within refl) 3
+    (omega arith)
     ((λ e. absurd cc), (λ e. absurd cc)) in
     absurd cc
 

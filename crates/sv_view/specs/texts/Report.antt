@@ -1,4 +1,4 @@
--- What `report` writes: the report of all events, at the end.
+-- What `report` writes: the report of all that is seen, at the end.
 use Rattle.std.specs.Prelude.{[]}
 use Rattle.sv_analyse.specs.Report.{report_from}
 use Rattle.sv_report.specs.ReportText.{text_of}
@@ -6,4 +6,4 @@ use Rattle.sv_view.specs.Text.{Text}
 
 abbrev pub report_text : Text
 report_text =
-    record { line = λ earlier event. []; last = λ events end. text_of (report_from events end) }
+    record { line = λ earlier one. []; last = λ seen end. text_of (report_from seen end) }

@@ -2,6 +2,7 @@
 ghost use Rattle.std.specs.Prelude.{◌≡◌, List, [], false};
 ghost use Rattle.sv_timeline.specs.declared.span.Span.{Span as Run};
 ghost use Rattle.sv_analyse.specs.State.{AnalysisStandsFor};
+ghost use Rattle.sv_view.specs.Live.{HasSummed};
 ghost use Rattle.sv_view.specs.texts.Report.{report_text};
 
 use crate::view::View;
@@ -10,7 +11,7 @@ use sv_analyse::Analysis;
 use sv_packet::EventRef;
 use sv_prim::NoMemory;
 use sv_report::put_report;
-use sv_stream::End;
+use sv_stream::{End, Mark};
 
 /// Keeps what the report tells of the events, and writes it after the last one.
 #[derive(Drop)]
@@ -33,8 +34,7 @@ impl Summary {
 impl View for Summary {
     ghost text = { report_text };
 
-    ghost shown = { λ view events. (view.analysis.failed ≡ false)
-        × ((given : List Run) × AnalysisStandsFor view.analysis events given) };
+    ghost shown = { HasSummed };
 
     #[inline(always)]
     fn event(
@@ -44,6 +44,11 @@ impl View for Summary {
         _lines: &mut Vec<u8>,
     ) -> Result<(), NoMemory> {
         self.analysis.step(time, event)?;
+        Ok(())
+    }
+
+    fn mark(&mut self, mark: &Mark, _lines: &mut Vec<u8>) -> Result<(), NoMemory> {
+        self.analysis.stop(mark.time)?;
         Ok(())
     }
 

@@ -1,9 +1,10 @@
 //! The command `timeline`: who had the processor, tick by tick.
 ghost use Rattle.std.specs.Prelude.{◌≡◌, ◌++◌, List, [], flat_map};
-ghost use Rattle.sv_packet.specs.declared.event.TimedEvent.{TimedEvent as Timed};
 ghost use Rattle.sv_packet.specs.declared.event.Packet.{Packet};
 ghost use Rattle.sv_packet.specs.Time.{timed};
 ghost use Rattle.sv_stream.specs.declared.end.End.{End as HowItEnds};
+ghost use Rattle.sv_stream.specs.Entries.{events_of, packets_of, timed_entries};
+ghost use Rattle.sv_stream.specs.Input.{Entry};
 ghost use Rattle.sv_timeline.specs.declared.span.Span.{Span as Run};
 ghost use Rattle.sv_timeline.specs.Runs.{timeline_of, ended_runs};
 ghost use Rattle.sv_timeline.specs.State.{StandsFor};
@@ -17,7 +18,7 @@ use std::alloc::Global;
 use sv_packet::EventRef;
 use sv_prim::NoMemory;
 use sv_report::{end_line, span_line};
-use sv_stream::End;
+use sv_stream::{End, Mark};
 use sv_timeline::Timeline;
 
 /// Writes a line for each run of ticks with equal contexts, as runs end, and the end line.
@@ -40,7 +41,8 @@ impl Runs {
 impl View for Runs {
     ghost text = { timeline_text };
 
-    ghost shown = { λ view events. (given : List Run) × StandsFor view.timeline events given };
+    ghost shown = { λ view seen. (given : List Run)
+        × StandsFor view.timeline (events_of seen) given };
 
     #[inline(always)]
     fn event(
@@ -50,6 +52,13 @@ impl View for Runs {
         lines: &mut Vec<u8>,
     ) -> Result<(), NoMemory> {
         match self.timeline.step(time, event)? {
+            Some(run) => span_line(&run, lines),
+            None => Ok(()),
+        }
+    }
+
+    fn mark(&mut self, mark: &Mark, lines: &mut Vec<u8>) -> Result<(), NoMemory> {
+        match self.timeline.step(mark.time, &EventRef::TraceStop)? {
             Some(run) => span_line(&run, lines),
             None => Ok(()),
         }
@@ -67,11 +76,12 @@ impl View for Runs {
 }
 
 /// The law of the text of `timeline`: a line for each run of the recording's timeline, and the end
-/// line; the lines alone leave out the last run.
+/// line; the lines alone leave out the last run. A mark of damage is the end of a recording there.
 pub fn timeline_lines()
-    ensures whole { (packets : List Packet) → (end : HowItEnds) →
-        whole_text timeline_text (timed packets) end
-        ≡ flat_map line_of_span (timeline_of (timed packets)) ++ line_of_end end }
-    ensures lines { (packets : List Packet) → lines_of timeline_text (timed packets)
-        ≡ flat_map line_of_span (ended_runs (timed packets)) }
+    ensures whole { (entries : List (Entry Packet)) → (end : HowItEnds) →
+        whole_text timeline_text (timed_entries entries) end
+        ≡ flat_map line_of_span (timeline_of (timed (packets_of entries))) ++ line_of_end end }
+    ensures lines { (entries : List (Entry Packet)) →
+        lines_of timeline_text (timed_entries entries)
+        ≡ flat_map line_of_span (ended_runs (timed (packets_of entries))) }
 {}

@@ -1,6 +1,5 @@
 use Rattle.sv_report.specs.ReportText.{text_of}
 use Rattle.sv_journal.specs.Stream.{stream_of}
-use Rattle.sv_sent.specs.Sent.{sent_packets}
 use Rattle.sv_cli.proofs.Parts.{on_ok}
 use Rattle.sv_cli.proofs.Reported.{report_of_stream, then_if}
 use Rattle.sv_cli.proofs.run.run_report.Goals as goal
@@ -18,8 +17,9 @@ returns-clause-report g c =
     let laws = c.reads_as_sent.ensures in
     let fed = c.in_ok-analyser.ensures.fed in
     then_if c.text.result c.text.ensures (λ lines told.
-    report_of_stream load items (sent_packets load items)
+    report_of_stream load items
     (laws.clean load items legal limits) (laws.silent load items legal limits)
-    (λ packets end. laws.never_damaged load items packets end legal limits)
+    (λ entries end. laws.alone load items entries end legal limits)
+    (λ entries end. laws.never_damaged load items entries end legal limits)
     text_of c.in_ok-report.report lines.items
     (c.in_ok-report.ensures.report (stream_of load items) fed.given fed.stands) told)

@@ -1,5 +1,5 @@
 use Rattle.sv_journal.specs.Items.{latest_first}
-use Rattle.sv_sent.proofs.reads.Streams.{ends_as, packets_as, read_as, silence, times_as}
+use Rattle.sv_sent.proofs.reads.Streams.{ends_as, entries_as, read_as, silence, times_as}
 use Rattle.sv_sent.proofs.times.Timed.{same_events}
 use Rattle.sv_sent.proofs.laws.reads_as_sent.Goals as goal
 
@@ -16,7 +16,7 @@ pub returns-clause-times : goal.returns-clause-times
 returns-clause-times c = times_as
 
 pub returns-clause-alone : goal.returns-clause-alone
-returns-clause-alone c = packets_as
+returns-clause-alone c = entries_as
 
 pub returns-clause-never_damaged : goal.returns-clause-never_damaged
 returns-clause-never_damaged c = ends_as

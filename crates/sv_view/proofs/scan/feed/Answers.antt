@@ -16,7 +16,7 @@ returns-then-total-count-clause-unfed g c =
         piece = take c.in-Ok.count c.fill.new.buf;
         bytes = subst AreBytes c.piece_of-piece.ensures.front c.piece_of-piece.ensures.bytes;
         read = c.in-Ok.ensures.bytes;
-        one = omega (arith, long, c.in-Ok.ensures.bound, c.requires.room);
+        one = omega (arith, long, c.in-Ok.ensures.bound);
       },
       omega (arith, long, c.if-total-count.true, c.requires.total.1),
     )
@@ -33,7 +33,7 @@ returns-then-is_err-clause-unfed g c =
       piece = take c.in-Ok.count c.fill.new.buf;
       bytes = subst AreBytes c.piece_of-piece.ensures.front c.piece_of-piece.ensures.bytes;
       read = c.in-Ok.ensures.bytes;
-      one = omega (arith, long, c.in-Ok.ensures.bound, c.requires.room);
+      one = omega (arith, long, c.in-Ok.ensures.bound);
     }
 
 pub returns-clause-fed : goal.returns-clause-fed
@@ -51,5 +51,5 @@ returns-clause-fed g c =
     c.piece_of-piece.ensures.front c.piece_of-piece.ensures.bytes
     (omega (arith, c.in-Ok.ensures.bound, c.fill.ensures.same))
     (omega (arith, c.if-total-count.false, c.requires.total.1)) c.in-Ok.ensures.bytes
-    c.push.result ok pushed.stands pushed.pushed pushed.held
+    c.push.result ok pushed.stands pushed.pushed
     (λ fewer. c.in-Ok.ensures.end (omega (arith, fewer, c.fill.ensures.same)))

@@ -3,7 +3,8 @@ use Rattle.sv_view.proofs.scan.scan_open.Goals as goal
 
 pub loop-scan-init : goal.loop-scan-init
 loop-scan-init g c = record {
-  between = c.new-scan.ensures (g.S.Source.left c.args.src.now) (g.K.Sink.written c.args.out.now);
+  between = c.new-scan.ensures.between (g.S.Source.left c.args.src.now)
+      (g.K.Sink.written c.args.out.now);
   opened = search rules;
   room = refl;
   begins = search rules;
